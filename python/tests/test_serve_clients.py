@@ -24,20 +24,22 @@ from misteluk.serve.server import Address, Server, token_of
 
 class Clients(ServeCase):
     def test_seats_over_http(self):
-        self.fed()
+        """As many versions as clients may hold; the newest is asked all the same."""
+        self.fed(limits=ServerLimits(versions=20))
         sessions = []
         self.addCleanup(lambda: [it.close() for it in sessions])
-        for it in range(16):
+        for it in range(20):
             sessions.append(connect(self.server.url))
             self.assertEqual(self.post("/v1/rows", {"rows": [["add", "k", "a", "b", 1, 1]]}).status, 200)
+        self.assertEqual(self.ask("/v1/edge?kind=k&source=a&target=b").json["version"], 21)
         found = self.post("/v1/sessions")
         self.assertEqual((found.status, found.json["error"]), (503, "NoSeat"))
         self.assertTrue(0 < int(found.headers["retry-after"]) <= 60)
         self.assertRaisesRegex(NoSeat, "ask again in", connect, self.server.url)
-        self.assertEqual(sessions[3].version, 4)
+        self.assertEqual((sessions[3].version, self.ask("/v1/stat").json["seats"]), (4, 20))
         sessions.pop().close()
         with connect(self.server.url) as session:
-            self.assertEqual(session.version, 17)
+            self.assertEqual(session.version, 21)
         with connect(self.server.url, version=4) as session:
             self.assertEqual(session.version, 4)
 

@@ -83,20 +83,21 @@ class Kept(ServeCase):
         self.addCleanup(found.close)
         self.assertEqual(list(found.open().edges()), [("k", "a", "b", Edge(5, 1, 1))])
 
-    def test_the_end_saves_where_all_seats_are_taken(self):
-        done, store = self.begin("1000"), self.client()
+    def test_saves_where_clients_hold_much(self):
+        """More versions than the library holds at once: the newest is saved at intervals, and at the end."""
+        done, store = self.begin("0.05"), self.client()
         sessions = []
-        for at in range(16):
+        for at in range(20):
             sessions.append(store.open())
             store.add("k", "a", f"b{at}", 5, 1)
             store.commit()
-        self.assertNotIn(16, [it["version"] for it in told(store)["held"]])
+        as_soon_as(lambda: told(store)["saved"]["version"] == 20)
         done.send_signal(signal.SIGTERM)
         done.communicate(timeout=60)
         self.assertEqual(done.returncode, 0)
         found = Store.restore(self.saved)
         self.addCleanup(found.close)
-        self.assertEqual(len(found.open().edges_columns()), 16)
+        self.assertEqual(len(found.open().edges_columns()), 20)
 
     def test_a_pipe_goes_on(self):
         """What a pipe brings goes into what was saved."""

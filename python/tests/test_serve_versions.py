@@ -8,6 +8,7 @@ from support import ENGINE, Case
 from misteluk import Busy, SessionClosed
 from misteluk.serve.board import Board, Full
 from misteluk.serve.feeding import Feeding
+from misteluk.serve.keeping import Keeper
 from misteluk.serve.limits import ServerLimits
 
 
@@ -19,7 +20,7 @@ class Versions(Case):
         super().setUp()
         self.clock = Clock()
         self.at = self.store(seats=16, endless=True)
-        self.board = Board(self.at, ServerLimits(idle=60, clients=40), self.clock)
+        self.board = Board(self.at, ServerLimits(idle=60, clients=40, versions=16), self.clock)
 
     def advance(self):
         self.at.add("k", "a", "b", 1, 1)
@@ -38,7 +39,7 @@ class Versions(Case):
         self.assertEqual((self.told(), self.at.engine.open_count), ([(1, 0)], 1))
 
     def test_sixteen_versions(self):
-        """What comes beyond is told when it may ask again; and then it may."""
+        """As many as clients may hold. What comes beyond is told when it may ask again; and then it may."""
         leases = []
         for _ in range(16):
             leases.append(self.board.lease())
@@ -47,7 +48,7 @@ class Versions(Case):
         self.board.lease(0)  # (so that version 1 is the first one that all its clients may let go)
         with self.assertRaises(Full) as told:
             self.board.lease()
-        self.assertEqual((told.exception.word, told.exception.after, len(self.told())), ("NoSeat", 45, 16))
+        self.assertEqual((told.exception.word, told.exception.after, len(self.told())), ("NoSeat", 45, 17))
         self.clock.now += 44.5
         self.assertRaises(Full, self.board.lease)
         self.clock.now += 0.5
@@ -56,23 +57,42 @@ class Versions(Case):
         self.assertEqual([it.version for it in self.board.held()], [0, *range(2, 17)])
         self.assertEqual(self.board.keep(leases[2].name).shared.version, 2)
 
+    def test_the_newest_is_always_there(self):
+        """Whatever clients hold, also where they hold more versions than the library holds at once: it is asked, and saved."""
+        board, leases = Board(self.at, ServerLimits(versions=50), self.clock), []
+        keeper = Keeper(str(self.room / "graph"))
+        self.addCleanup(keeper.close)
+        for it in range(40):
+            leases.append(board.lease())
+            self.at.add("k", "a", f"b{it}", 1, 1)
+            self.at.commit()
+            board.advance()
+            with board.lent() as session:
+                self.assertEqual((session.version, len(session.edges_columns())), (it + 1, it + 1))
+            keeper.save(board)
+            self.assertEqual((keeper.told()["version"], keeper.fault), (it + 1, ""))
+        self.assertEqual([it.version for it in board.held()], list(range(41)))
+        for at, it in enumerate(leases):
+            with board.lent(it.name) as session:
+                self.assertEqual((session.version, sorted(session.out_of("a")) if at else []),
+                                 (at, sorted(f"b{to}" for to in range(at))))
+        for it in leases:
+            board.let_go(it.name)
+        self.assertEqual(([it.version for it in board.held()], self.at.stat().version), ([40], 40))
+
     def test_some_rows_of_a_post_are_no_version(self):
-        """Also where a seat becomes free while the others go in."""
-        leases = []
-        for _ in range(16):
-            leases.append(self.board.lease())
-            self.advance()
+        """Neither to those who ask the newest, nor to a save."""
+        self.advance()
         real, told = self.at.engine.fly, []
 
         def fly(flight):
             found = real(flight)
-            if leases:
-                self.board.let_go(leases.pop().name)
-            told.append([it for it, _ in self.told()])
+            with self.board.lent() as session:
+                told.append((session.version, [it for it, _ in self.told()]))
             return found
         with mock.patch.object(self.at.engine, "fly", fly):
             Feeding(self.board, ServerLimits()).rows([["add", "k", f"s{it}", "t", "1", "1"] for it in range(5_000)])
-        self.assertEqual((told, [it for it, _ in self.told()]), ([[*range(15)], [*range(14)]], [*range(14), 18]))
+        self.assertEqual((told, [it for it, _ in self.told()]), ([(1, [1]), (1, [1])], [3]))
 
     def test_who_asks_isn_t_silent(self):
         lease = self.board.lease()
@@ -136,7 +156,7 @@ class Versions(Case):
                 self.assertEqual(fault.word, "NoSeat")
             self.advance()
             self.at.renew()
-        self.assertEqual((len(leases), [it for it, _ in self.told()]), (16, list(range(16))))
+        self.assertEqual((len(leases), [it for it, _ in self.told()]), (16, [*range(16), 20]))
         self.board.let_go(leases.pop().name)
         self.assertEqual([it for it, _ in self.told()], [*range(15), 20])
 

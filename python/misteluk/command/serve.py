@@ -10,6 +10,7 @@ from typing import Any, Dict, Optional, Tuple
 
 from ..engine.making import LIBRARY
 from ..feeds.feed import STANDARD_INPUT
+from ..serve.door import raise_descriptors
 from ..serve.keeping import USUAL_EVERY, Keeper
 from ..serve.limits import ServerLimits
 from ..serve.server import USUAL, Server, token_of
@@ -22,6 +23,10 @@ TURN = 0.0005
 # hold need the blocks that batches replaced meanwhile, and a store without free ones begins anew: beside a quick feed it would do
 # so again and again.
 ROOM = 262_144
+
+# What a signal does while nothing else says so: a terminal that goes ends no server.
+SIGNALS: Dict[signal.Signals, Any] = {signal.SIGINT: signal.default_int_handler, signal.SIGTERM: signal.default_int_handler,
+                                      signal.SIGHUP: signal.SIG_IGN}
 
 
 def add_options(parser: argparse.ArgumentParser) -> None:
@@ -37,6 +42,8 @@ def add_options(parser: argparse.ArgumentParser) -> None:
                         f"there is another version ({USUAL_EVERY:g})")
     listen.add_argument("--idle", type=float, default=usual.idle, metavar="SECONDS", help="let a client's version go when it was "
                         f"silent for so long ({usual.idle:g})")
+    listen.add_argument("--versions", type=int, default=usual.versions, metavar="N", help="how many versions clients may hold, "
+                        f"besides the newest; each takes memory for what came later ({usual.versions})")
     listen.add_argument("--clients", type=int, default=usual.clients, metavar="N", help=f"how many sessions there may be "
                         f"({usual.clients:,})")
     listen.add_argument("--body", type=int, default=usual.body, metavar="BYTES", help=f"how long a request's body may be "
@@ -49,7 +56,7 @@ def add_options(parser: argparse.ArgumentParser) -> None:
 
 def serve(words: argparse.Namespace, how: Dict[str, Any]) -> int:
     """Serves a store until a signal ends it."""
-    limits = ServerLimits(words.idle, words.clients, words.body, words.longest, words.questions)
+    limits = ServerLimits(words.idle, words.clients, words.body, words.longest, words.questions, words.versions)
     if words.file is not None and words.by is None:
         raise ValueError("a feed wants --set or --add")
     if words.program is not None or words.engine not in (None, LIBRARY):
@@ -62,8 +69,10 @@ def serve(words: argparse.Namespace, how: Dict[str, Any]) -> int:
         store, began = store_of(words, keeper)
         ends.enter_context(store)
         store.engine.fit(0, 0, ROOM)
+        raise_descriptors()
         server = Server(store, words.listen, token=token, limits=limits, keeper=keeper, began=began)
-        before, sys_turn = signal.getsignal(signal.SIGINT), sys.getswitchinterval()
+        before = {it: signal.signal(it, done) for it, done in SIGNALS.items()}
+        sys_turn = sys.getswitchinterval()
         sys.setswitchinterval(TURN)
         # (what is here by now stays to the end: a look through all of it for cycles would stop every question)
         gc.collect()
@@ -72,12 +81,13 @@ def serve(words: argparse.Namespace, how: Dict[str, Any]) -> int:
             follow(server, words, how)
             tell(server, words, token)
             server.run()
-        except KeyboardInterrupt:  # (how a server ends)
-            pass
+        except KeyboardInterrupt:  # (as a signal ends one that isn't there yet)
+            server.end_feed()
         finally:
             gc.unfreeze()
             sys.setswitchinterval(sys_turn)
-            signal.signal(signal.SIGINT, before)
+            for it, was in before.items():
+                signal.signal(it, was)
     bad = server.feeding.told()["bad"]
     skipped = f"; {bad} bad rows were passed over" if bad else ""
     print(f"misteluk: ended at version {server.board.stat.version}, of {server.board.stat.edges} edges{skipped}", file=sys.stderr)

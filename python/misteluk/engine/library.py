@@ -254,12 +254,15 @@ class LibraryEngine:
     def hold(self, slot: Optional[int]) -> LibraryVersion:
         opening = self._settle()
         self._held = {at: it for at, it in self._held.items() if it() is not None}
-        free = [it for it in range(self.seats) if it not in self._held]
-        if slot is None and not free:
+        place = next((it for it in range(self.seats) if it not in self._held), None) if slot is None else slot
+        if place is None:
             raise NoSeat()
-        if slot in self._held:
+        if place in self._held:
             raise Denied("AlreadyOpen")
-        version = self._hold(opening, free[0] if slot is None else slot)
+        try:
+            version = self._hold(opening, place)
+        except NoSeat:  # (the desk has 16: over its last version it begins anew, and those that are held need none there)
+            version = self._hold(self._begin_anew(opening, self._stat(opening)), place)
         self._held[version.slot] = weakref.ref(version)
         return version
 

@@ -1,12 +1,10 @@
 """The server's calls over HTTP, each by its route."""
 from __future__ import annotations
 
-import csv
-import io
 import json
 import pkgutil
 import re
-from typing import Any, Callable, Dict, Iterator, List, Mapping, Optional, Sequence, Tuple
+from typing import Any, Callable, Dict, Iterator, List, Mapping, Optional, Tuple
 
 from starlette.applications import Starlette
 from starlette.exceptions import HTTPException
@@ -16,24 +14,29 @@ from starlette.routing import Route
 
 from . import wire
 from .asking import OF_FEW, Answers, Shortcut
+from .bodies import loaded, rows_of_csv, rows_of_json
 from .board import Board, Full, Lease
 from .faults import told_fault
 from .feeding import Feeding
 from .gate import Run
 from .keeping import Keeper
 from .flow import Pool, Streamed, as_json, first_of, within
-from .limits import ServerLimits, TooLarge
+from .limits import BODIES, LITTLE, ServerLimits, TooLarge
 from .openapi import described
-from .page import POLICY
-from .questions import AT_ONCE, HELD, QUESTIONS, QUICK, WHOLE, ServedQuestion
+from .page import POLICY, VIEWED
+from .questions import AT_ONCE, HELD, QUESTIONS, QUICK, WHOLE, Parameter, ServedQuestion
 from ..engine.protocol import Denied
 from ..page.page import style
 from ..errors import Busy, NoKind, NoMemory, NoVertex, PoolEmpty, Refused, SessionClosed, StoreError
-from ..values.texts import text_of
 
 QUICK_THREADS = 4
 # A date in an address, behind which + and a colon stand as they are: a zone or a time of day.
 _ZONE_OR_TIME = re.compile(r"(?:^|&)(?:since|until)=\d{4}-\d\d-\d\d\+\d\d:", re.A)
+# What a request notes of its body: how many bytes are here.
+TAKEN = "misteluk.taken"
+# How the rows of a post are read.
+ROWS = {"text/csv": rows_of_csv, "application/json": rows_of_json}
+BATCH = Parameter("number", "a batch's number", least=1)
 
 
 class Api:
@@ -47,7 +50,10 @@ class Api:
         self.held = Pool(QUICK_THREADS, limits, "held")
         self.slow = Pool(limits.questions, limits, "whole")
         self.feed = Pool(1, limits, "rows")
+        self.bodies = Pool(1, limits, "bodies")
         self.answers = Answers(board, self.store.ledger.terms.names)
+        # How many bytes of bodies are here.
+        self._taken = 0
 
     def shortcut(self) -> Shortcut:
         return Shortcut(self.app(), self._call(self.ask), self.answers, self.limits)
@@ -63,8 +69,8 @@ class Api:
                 Route("/v1/sessions/{session}", call(self.let_go), methods=["DELETE"])]
         fed = [Route("/v1/rows", call(self.rows), methods=["POST"]), Route("/v1/feeder", call(self.claim), methods=["POST"]),
                Route("/v1/feeder/{feeder}", call(self.leave), methods=["DELETE"]),
-               Route("/v1/feeder/{feeder}/batches/{number:int}", call(self.batch), methods=["POST"]),
-               Route("/v1/feeder/{feeder}/batches/{number:int}", call(self.landed), methods=["DELETE"])]
+               Route("/v1/feeder/{feeder}/batches/{number}", call(self.batch), methods=["POST"]),
+               Route("/v1/feeder/{feeder}/batches/{number}", call(self.landed), methods=["DELETE"])]
         told = [Route("/v1/stat", call(self.stat), methods=["GET"]),
                 Route("/openapi.json", call(self.description), methods=["GET"])]
         # (routes are looked through in order: those that are asked most come first)
@@ -73,7 +79,7 @@ class Api:
         return app
 
     def close(self) -> None:
-        for it in (self.quick, self.held, self.slow, self.feed):
+        for it in (self.quick, self.held, self.slow, self.feed, self.bodies):
             it.close()
 
     def _call(self, handle: Callable[[Request], Any]) -> Callable[[Request], Any]:
@@ -85,6 +91,8 @@ class Api:
                 return told_fault(fault)
             except ClientDisconnect:  # (nobody reads it)
                 return Response(status_code=400)
+            finally:
+                self._taken -= request.scope.pop(TAKEN, 0)
         return call
 
     # What is asked.
@@ -117,23 +125,26 @@ class Api:
                 yield from question.answer(session, {**given, "beside_session": other})
 
     async def _answered(self, parts: Callable[[], Iterator[bytes]], media: str, way: int) -> Any:
+        headers = {"content-type": media, **({"content-security-policy": VIEWED} if media.startswith("text/html") else {})}
         if way == AT_ONCE and not self.board.is_busy:
-            return Response(b"".join(parts()), media_type=media)
+            return Response(b"".join(parts()), headers=headers)
         pool = self.slow if way == WHOLE else self.quick
         flow, first, is_more = await pool.run(lambda: first_of(parts), lambda it: it[0].close())
         if not is_more:
-            return Response(first, media_type=media)
-        return Streamed(flow, first, media, self.slow, self.limits)
+            return Response(first, headers=headers)
+        return Streamed(flow, first, headers, self.slow, self.limits)
 
     async def stat(self, request: Request) -> Response:
         """What the store holds; no question waits for the feed by it."""
+        if request.query_params:
+            raise ValueError("stat is asked with nothing")
         stat, units = self.board.stat, self.store.ledger.terms.units
         told = {"server": self._run.name, "began": self._run.began, "saved": self._keeper and self._keeper.told(),
                 "version": stat.version, "vertices": stat.names, "edges": stat.edges,
                 "operations_kept": self.store.operations_kept,
                 "blocks": {"all": self.store.blocks, "grow": self.store.engine.grows, "free": stat.free, "retired": stat.retired,
                            "used": stat.used},
-                "held": [it._asdict() for it in await self.quick.run(self.board.held)], "seats": self.store.seats,
+                "held": [it._asdict() for it in await self.quick.run(self.board.held)], "seats": self.limits.versions,
                 "feed": self.feeding.told(), "limits": self.limits._asdict(),
                 "units": {"weight_scale": units.weight_scale, "times": units.times, "decimals": units.decimals,
                           "rounding": units.rounding}}
@@ -168,10 +179,10 @@ class Api:
     async def rows(self, request: Request) -> Response:
         """Rows of a client, in the user's terms."""
         name = request.query_params.get("feeder")
-        body, kind = await self._body(request), request.headers.get("content-type", "").partition(";")[0].strip()
-        if kind not in ("text/csv", "application/json"):
+        read = ROWS.get(request.headers.get("content-type", "").partition(";")[0].strip().lower())
+        if read is None:
             raise ValueError("rows are text/csv or application/json, as their Content-Type says")
-        found = _rows_of_csv(body) if kind == "text/csv" else _rows_of_json(_loaded(body))
+        found = read(await self._body(request))
         return as_json((await self.feed.run(lambda: self.feeding.rows(found, name)))._asdict())
 
     async def claim(self, request: Request) -> Response:
@@ -184,17 +195,17 @@ class Api:
 
     async def batch(self, request: Request) -> Response:
         """A batch of a client in Python, in the engine's terms."""
-        it, given = request.path_params, await self._object(request)
+        seat, number, given = *_batch_of(request), await self._object(request)
         text, texts, collect = given.get("operations"), given.get("texts", {}), bool(given.get("collect", True))
         if not isinstance(text, str) or not isinstance(texts, dict) or not all(isinstance(name, str) for name in texts.values()):
             raise ValueError("a batch has operations, a text, and texts by their ids")
         records: str = text
-        receipt = await self.feed.run(lambda: self.feeding.batch(it["feeder"], it["number"], records, texts, collect))
+        receipt = await self.feed.run(lambda: self.feeding.batch(seat, number, records, texts, collect))
         return as_json(receipt._asdict())
 
     async def landed(self, request: Request) -> Response:
-        it = request.path_params
-        receipt = await self.feed.run(lambda: self.feeding.landed(it["feeder"], it["number"]))
+        seat, number = _batch_of(request)
+        receipt = await self.feed.run(lambda: self.feeding.landed(seat, number))
         return as_json({"receipt": None if receipt is None else receipt._asdict()})
 
     # Bodies.
@@ -207,10 +218,19 @@ class Api:
                 found.extend(part)
                 if len(found) > self.limits.body:
                     raise TooLarge(f"a body has at most {self.limits.body:,} bytes")
+                self._take(request, len(part))
         return bytes(found)
 
+    def _take(self, request: Request, size: int) -> None:
+        """Notes that so many bytes of a request's body came, until it is answered. Raises `Full` where all have too many."""
+        if self._taken + size > BODIES * self.limits.body:
+            raise Full("TooMany", "too many bodies are being read", 1)
+        self._taken += size
+        request.scope[TAKEN] = request.scope.get(TAKEN, 0) + size
+
     async def _object(self, request: Request) -> Mapping[str, Any]:
-        found = _loaded(await self._body(request))
+        body = await self._body(request)
+        found: Any = loaded(body) if len(body) <= LITTLE else await self.bodies.run(lambda: loaded(body))
         if not isinstance(found, dict):
             raise ValueError("the body is an object of JSON")
         return found
@@ -220,12 +240,17 @@ def _lease(lease: Lease, limits: ServerLimits) -> Dict[str, Any]:
     return {"session": lease.name, "version": lease.shared.version, "vertices": lease.shared.session.names, "idle": limits.idle}
 
 
+def _batch_of(request: Request) -> Tuple[str, int]:
+    """The seat and the number of a batch."""
+    return request.path_params["feeder"], BATCH.read(request.path_params["number"])
+
+
 def _file(name: str, media: str) -> Callable[[Request], Any]:
     """A file of the package, which is the page or a part of it."""
     data = (style().encode("utf-8") if media == "text/css" else b"") + (pkgutil.get_data(__package__ or "", name) or b"")
 
     async def handle(request: Request) -> Response:
-        return Response(data, headers={"content-security-policy": POLICY}, media_type=media)
+        return Response(data, headers={"content-type": media, "content-security-policy": POLICY})
     return handle
 
 
@@ -233,44 +258,3 @@ def _no_route(request: Request, fault: Exception) -> Response:
     status = getattr(fault, "status_code", 404)
     reason = "there is no such call: /openapi.json tells which there are" if status == 404 else "this call has another method"
     return as_json(wire.fault("NoCall", reason), status, getattr(fault, "headers", None))
-
-
-# Rows.
-
-def _loaded(body: bytes) -> Any:
-    try:
-        return json.loads(body)
-    except RecursionError:
-        raise ValueError("the body is no JSON that has an end") from None
-    except UnicodeDecodeError as fault:
-        raise ValueError(f"the body is no JSON in UTF-8: byte {body[fault.start]:#04x}") from None
-    except ValueError as fault:
-        raise ValueError(f"the body is no JSON: {fault}") from None
-
-
-def _rows_of_csv(body: bytes) -> "List[List[str]]":
-    try:
-        return _csv_rows(body.decode("utf-8"), True)
-    except UnicodeDecodeError as fault:
-        row = len(_csv_rows(body[:fault.start].decode("utf-8") + "?", False))
-        raise ValueError(f"row {row}: byte {body[fault.start]:#04x} is no UTF-8") from None
-    except csv.Error as fault:
-        raise ValueError(f"this is no CSV: {fault}") from None
-
-
-def _csv_rows(text: str, is_strict: bool) -> "List[List[str]]":
-    return [row for row in csv.reader(io.StringIO(text, newline=""), strict=is_strict) if row]
-
-
-def _rows_of_json(found: Any) -> "Sequence[Sequence[str]]":
-    rows = found.get("rows") if isinstance(found, dict) else None
-    if not isinstance(rows, list) or not all(isinstance(row, list) for row in rows):
-        raise ValueError('rows are {"rows": [["add", KIND, SOURCE, TARGET, AMOUNT, TIME], ..]}')
-    return [[_field(at, it) for at, it in enumerate(row)] for row in rows]
-
-
-def _field(at: int, value: Any) -> str:
-    """A field's text; numbers stand for weights and times alone."""
-    if isinstance(value, str) or type(value) in (int, float) and (at > 3 or at == 1):
-        return text_of(value)
-    raise ValueError("a row has texts, and numbers as weight or time")

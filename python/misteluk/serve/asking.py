@@ -12,7 +12,7 @@ from . import wire
 from .board import Board, Full
 from .faults import told_fault
 from .flow import Message, Receive, Send, within
-from .limits import ServerLimits
+from .limits import LITTLE, ServerLimits
 from ..engine.protocol import Denied
 from ..errors import StoreError
 from ..session import Session
@@ -116,7 +116,7 @@ class Shortcut:
     def _told(self, name: str, first: Message) -> "bytes | Response | None":
         """The answer to a request that came whole, or the fault of it; `None` where it is to go the long way."""
         body = first.get("body", b"")
-        if first["type"] != "http.request" or first.get("more_body") or len(body) > self._limits.body:
+        if first["type"] != "http.request" or first.get("more_body") or len(body) > min(self._limits.body, LITTLE):
             return None
         try:
             return self._answers.at_once(name, json.loads(body))

@@ -10,10 +10,13 @@ from contextlib import contextmanager
 from typing import Any, Callable, Deque, Dict, Iterator, List, NamedTuple, Optional, Tuple
 
 from .limits import ServerLimits
-from ..errors import NoSeat, SessionClosed, StoreError
+from ..errors import SessionClosed, StoreError
 from ..session import Session
 from ..store import Store
 from ..values.answers import Stat
+
+# How many seats an engine has for a board, which counts by itself what clients hold.
+ANY_NUMBER = 1 << 30
 
 
 class Full(StoreError):
@@ -55,50 +58,39 @@ class HeldVersion(NamedTuple):
 
 class Board:
     """The versions of a store that are held. Whoever feeds the store calls `advance` behind each commit; so a question for the
-    last version never waits for the feed. At most as many versions are held as the store has seats."""
+    last version never waits for the feed. The last version is always held, whatever clients hold; those are `versions` at most."""
 
     def __init__(self, store: "Store[Any, Any]", limits: ServerLimits, clock: Callable[[], float] = time.monotonic) -> None:
         self.store, self.limits, self._clock = store, limits, clock
-        self._lock = threading.Lock()
+        store.engine.seats = ANY_NUMBER
+        # One thread advances at a time; the other lock is for what takes no time.
+        self._turn, self._lock = threading.Lock(), threading.Lock()
         # Sessions that are to be closed, which waits for a batch that is being applied: never with the lock.
         self._gone: "Deque[Session[Any, Any]]" = deque()
-        self._held: Dict[int, Shared] = {}
         self._leases: Dict[str, Lease] = {}
-        self._last: Optional[Shared] = None
-        # Whether rows go in that are several batches: a version with some of them isn't held.
-        self._is_amid = False
         self.stat: Stat = store.stat()
-        self.advance()
+        self._last = Shared(store.open())
+        self._held: Dict[int, Shared] = {self._last.version: self._last}
 
     def advance(self) -> None:
-        """Holds the last version in the place of the one before. Where all seats hold versions that clients have, there is none
-        that is last until one of them is let go."""
-        with self._locked():
-            self._is_amid, self.stat = False, self.store.stat()
-            before, self._last = self._last, None
-            if before is not None and len(self._held) == self.store.seats:
+        """Holds the last version in the place of the one before. (A store may begin anew for that: nobody waits for it but the
+        feed.)"""
+        with self._turn:
+            stat = self.store.stat()
+            if stat.version == self._last.version:
+                return
+            session = self.store.open()
+            with self._locked():
+                self.stat, before = stat, self._last
+                self._last = self._held[session.version] = Shared(session)
                 self._drop(before)
-            self._hold_last()
-            if before is not None:
-                self._drop(before)
-
-    def begin(self) -> None:
-        """Holds no version until `advance`: those that come have some of the rows alone that go in together."""
-        with self._lock:
-            self._is_amid = True
 
     @contextmanager
     def _locked(self) -> Iterator[None]:
-        """Has the board alone; behind that the sessions are closed that were let go, and the last version is held if there is
-        room now."""
+        """Has the board alone; behind that the sessions are closed that were let go."""
         with self._lock:
             yield
-        if not self._gone:
-            return
         self._close_gone()
-        if self._last is None:
-            with self._lock:
-                self._hold_last()
 
     def _close_gone(self) -> None:
         while self._gone:
@@ -106,20 +98,6 @@ class Board:
                 self._gone.popleft().close()
             except IndexError:  # (another thread took it)
                 return
-
-    def _hold_last(self) -> None:
-        """Holds the last version, where there is a seat for it and it isn't held."""
-        known = self._last or self._held.get(self.stat.version)
-        if known is None:
-            if self._is_amid:
-                return
-            self._close_gone()
-            try:
-                session = self.store.open()
-            except NoSeat:
-                return
-            known = self._held.setdefault(session.version, Shared(session))
-        self._last = known
 
     def _drop(self, shared: Shared) -> None:
         """Lets a version go that nobody needs."""
@@ -136,19 +114,24 @@ class Board:
             if len(self._leases) >= self.limits.clients:
                 raise Full("Full", f"there are {self.limits.clients} sessions, which is how many this server allows",
                            self._first_end(self._leases.values()))
-            lease = Lease(self._find(version), self._clock())
+            lease = Lease(self._with_room(self._find(version)), self._clock())
             self._leases[lease.name] = lease.shared.leases[lease.name] = lease
             return lease
 
+    def _with_room(self, shared: Shared) -> Shared:
+        """The version, where clients may hold it beside those that they hold. Raises `Full` else."""
+        others = [it for it in self._held.values() if it.leases and it is not shared]
+        if len(others) >= self.limits.versions:
+            raise Full("NoSeat", f"clients hold {len(others)} other versions, which is how many this server allows",
+                       min(map(self._last_end, others)))
+        return shared
+
     def _find(self, version: Optional[int]) -> Shared:
-        if version is not None:
-            if version not in self._held:
-                raise SessionClosed(f"version {version} isn't held")
-            return self._held[version]
-        if self._last is None:
-            ends = [self._last_end(it) for it in self._held.values()]
-            raise Full("NoSeat", f"all {self.store.seats} seats hold other versions that clients have", min(ends, default=1))
-        return self._last
+        if version is None:
+            return self._last
+        if version not in self._held:
+            raise SessionClosed(f"version {version} isn't held")
+        return self._held[version]
 
     def keep(self, name: str) -> Lease:
         """Notes that this client was heard of. Raises `SessionClosed` where its version was let go."""
@@ -242,5 +225,5 @@ class Board:
         """Lets all go."""
         with self._lock:
             self._gone.extend(it.session for it in self._held.values())
-            self._held, self._leases, self._last = {}, {}, None
+            self._held, self._leases = {}, {}
         self._close_gone()

@@ -12,7 +12,7 @@ from .talk import Talk, part
 from ..engine.guard import Guard, alone
 from ..engine.operations import Operations
 from ..engine.protocol import Arrays, Denied, Ends, Marks, Receipt, Scope
-from ..errors import NoAnswer, NoServer, NotAllowed, Refused, SessionClosed, StoreError
+from ..errors import Busy, NoAnswer, NoServer, NotAllowed, Refused, SessionClosed, StoreError
 from ..session import Session
 from ..store import Store
 from ..values.answers import Collected, Commit, Stat
@@ -185,7 +185,7 @@ class ServedEngine:
             unsent = type(fault)(f"{fault}. No batch was sent, and what is pending stays so")
             unsent.__dict__.update(is_sent=False)
             raise unsent from fault
-        except (Refused, NotAllowed):
+        except (Refused, NotAllowed, Busy):
             if self.talk.run == run:  # (so it isn't in, and nobody is asked for it)
                 flight.feeder = ""
             raise
@@ -357,7 +357,7 @@ def connect(url: str, *, version: Optional[int] = None, token: Optional[str] = N
         with misteluk.connect("http://127.0.0.1:7700") as session:
             print(session.version, session.levels("ana"))
 
-    `url` is `http://HOST:PORT` or `unix:PATH`. See `Served` for the rest."""
+    `url` is `http://HOST:PORT`, with a path where a proxy has the server under one, or `unix:PATH`. See `Served` for the rest."""
     store = Served(url, token=token, timeout=timeout, keep_alive=keep_alive)
     engine: Any = store.engine
     try:

@@ -11,8 +11,9 @@ from typing import Any, Callable, Dict, List, NamedTuple, Optional, Tuple
 
 from . import wire
 from .asking import ASKED, Answers
+from .door import AtDoor, Door
 from .gate import Gate
-from .limits import ServerLimits
+from .limits import LITTLE, ServerLimits
 
 # A head but for its length, which is its last line: where it is asked, and headers by names that are known.
 _FIRST = re.compile(rb"POST (/v1/sessions/[A-Za-z0-9_-]+/ask) HTTP/1\.1")
@@ -22,7 +23,7 @@ LENGTH, END = b"\r\nContent-Length: ", b"\r\n\r\n"
 _read = json.JSONDecoder().raw_decode
 # What is used of uvicorn's protocol, as it is made: one of another version may have it under other names, and reads all then.
 _CALLS = ("data_received", "on_message_begin", "on_message_complete", "timeout_keep_alive_handler")
-_STATE = ("loop", "transport", "flow", "cycle", "connections", "limit_concurrency", "server_state", "timeout_keep_alive")
+_STATE = ("loop", "transport", "flow", "cycle", "server_state", "timeout_keep_alive")
 
 
 class Request(NamedTuple):
@@ -56,7 +57,7 @@ class Responder:
     """What little questions are answered by. The gate looks at each head; one that it let in it lets in each time."""
 
     def __init__(self, gate: Gate, answers: Answers, limits: ServerLimits) -> None:
-        self._gate, self._answers, self._most = gate, answers, limits.body
+        self._gate, self._answers, self._most = gate, answers, min(limits.body, LITTLE)
         self._headers = [*gate.headers, (b"content-type", wire.COLUMNS.encode("ascii"))]
 
     def session_of(self, head: bytes) -> Optional[str]:
@@ -92,6 +93,7 @@ class Direct(_Protocol):  # type: ignore[misc]
     """uvicorn's protocol, that answers little questions at once between other requests. It stands before one in a class."""
 
     responder: Responder
+    door: Door
     is_known, is_amid, heard = False, False, 0.0
     head = b""
     session: Optional[str] = None
@@ -110,6 +112,7 @@ class Direct(_Protocol):  # type: ignore[misc]
             super().data_received(data)
             return
         self.heard = self.loop.time()
+        self.door.let_in(self.transport)
         if self.timeout_keep_alive_task is None:
             self.timeout_keep_alive_task = self.loop.call_later(self.timeout_keep_alive, self.timeout_keep_alive_handler)
         usual = self.server_state.default_headers
@@ -119,9 +122,9 @@ class Direct(_Protocol):  # type: ignore[misc]
 
     def _is_free(self) -> bool:
         """Whether no other request is under way here, and one may be answered."""
-        cycle, most = self.cycle, self.limit_concurrency
+        cycle = self.cycle
         return not (self.is_amid or cycle is not None and not cycle.response_complete or self.flow.write_paused
-                    or self.transport.is_closing() or most is not None and len(self.connections) >= most)
+                    or self.transport.is_closing())
 
     def _told(self, data: bytes) -> Optional[bytes]:
         request = whole(data)
@@ -147,13 +150,17 @@ class Direct(_Protocol):  # type: ignore[misc]
             self.timeout_keep_alive_task = self.loop.call_later(left, self.timeout_keep_alive_handler)
 
 
-def protocol(responder: Responder) -> "type | str":
-    """What uvicorn makes for each connection: its own protocol, by its name, where httptools isn't there."""
+def protocol(responder: Responder, door: Door) -> type:
+    """What uvicorn makes for each connection: its own protocol, behind a door. Little questions are answered before that of
+    httptools, where it is there."""
+    base: Any
     try:
         from uvicorn.protocols.http.httptools_impl import HttpToolsProtocol
+        base = made(HttpToolsProtocol, responder)
     except ImportError:
-        return "auto"
-    return made(HttpToolsProtocol, responder)
+        from uvicorn.protocols.http.h11_impl import H11Protocol
+        base = H11Protocol
+    return type("Connection", (AtDoor, base), {"door": door})
 
 
 def made(base: Any, responder: Responder) -> type:

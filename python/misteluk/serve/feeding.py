@@ -6,8 +6,9 @@ import secrets
 import sys
 import threading
 import time
+import traceback
 from collections import deque
-from typing import Any, Callable, Deque, Dict, List, Mapping, Optional, Sequence, Tuple
+from typing import Any, Callable, Deque, Dict, Iterable, List, Mapping, Optional, Sequence, Tuple
 
 from .board import Board
 from .limits import ServerLimits
@@ -29,6 +30,8 @@ COMMANDS = {"insert": "i", "add": "a", "remove": "r", "expire": "x"}
 FEEDERS = 100
 # How many characters of what ended a feed are told.
 MOST_REASON = 2_000
+# How many signs a record of an operation has at most: three names within quotes, each sign twice, and two numbers.
+LONGEST = 3 * (2 * records.MOST_NAME + 2) + 2 * 20 + 6
 # Over how many seconds the feed's rate is told.
 RATED = 10.0
 
@@ -75,6 +78,7 @@ class Feeding:
         self._before: Deque[Feeder] = deque(maxlen=FEEDERS)
         self._following: Optional[Apart] = None
         self._thread: Optional[threading.Thread] = None
+        self._is_over = False
 
     # A feed that is followed.
 
@@ -94,14 +98,19 @@ class Feeding:
                 before = step.rows
                 self.board.advance()
             self.state = "ended"
-        except (StoreError, ValueError, OSError) as fault:
-            self.fault = getattr(fault, "word", "") or type(fault).__name__
-            self.state, self.reason = "failed", without_paths(str(fault), following.name)
-            self.store.discard()
-            self.board.advance()
-            print(f"misteluk: the feed ended: {fault}", file=sys.stderr)
+        except BaseException as fault:  # (whatever it is: who asks would else take the feed for one that goes on)
+            self._failed(following, fault)
         finally:
             following.close()
+
+    def _failed(self, following: Apart, fault: BaseException) -> None:
+        self.fault, self.reason = getattr(fault, "word", "") or type(fault).__name__, without_paths(str(fault), following.name)
+        self.state = "failed"
+        print(f"misteluk: the feed ended: {fault}", file=sys.stderr)
+        if not isinstance(fault, (StoreError, ValueError, OSError)):
+            traceback.print_exception(type(fault), fault, fault.__traceback__)
+        self.store.discard()
+        self.board.advance()
 
     # A client that feeds.
 
@@ -112,6 +121,7 @@ class Feeding:
     def claim(self) -> Feeder:
         """The seat. Raises `Busy` where it is taken, but by a client that was silent too long."""
         with self._lock:
+            self._must_go_on()
             if self._is_followed:
                 raise Busy("this server follows a feed of its own")
             if self._feeder is not None and self._feeder.heard > self._clock() - self.limits.idle:
@@ -119,6 +129,10 @@ class Feeding:
             self._leave()
             self._feeder = Feeder(self._clock())
             return self._feeder
+
+    def _must_go_on(self) -> None:
+        if self._is_over:
+            raise Busy("this server ends, and takes no more rows: ask the next one")
 
     def _known(self, name: str) -> Feeder:
         if self._feeder is None or self._feeder.name != name:
@@ -142,6 +156,7 @@ class Feeding:
         with self._lock:
             feeder = self._known(name)
             if feeder.number != number:
+                self._must_go_on()
                 operations = checked_operations(text)
                 self._take_texts(texts)
                 feeder.receipt, feeder.number = self._apply(operations, collect), number
@@ -180,7 +195,7 @@ class Feeding:
 
     # Rows in the user's terms.
 
-    def rows(self, rows: Sequence[Sequence[str]], name: Optional[str] = None) -> Commit:
+    def rows(self, rows: Iterable[Sequence[str]], name: Optional[str] = None) -> Commit:
         """Applies rows, each an operation's word and fields, in batches; all of them are checked before. Raises `Busy` where
         another feeds the store."""
         with self._lock:
@@ -188,10 +203,9 @@ class Feeding:
                 self.let_go(self.claim().name)
             else:
                 self._known(name)
-            if not rows:
-                raise ValueError("there are no rows")
             found = self._records(rows)
-            self.board.begin()
+            if not found:
+                raise ValueError("there are no rows")
             try:
                 return self._in_batches(found)
             finally:
@@ -207,23 +221,24 @@ class Feeding:
                 raise refusal(fault.word, f"the rows before row {first} are in, and none behind it") from None
         return sum_of(done)
 
-    def _records(self, rows: Sequence[Sequence[str]]) -> List[Row]:
-        """The operations of rows. Raises a `Refused` for the first row that is none; no name is kept then."""
+    def _records(self, rows: Iterable[Sequence[str]]) -> List[Row]:
+        """The operations of rows, which are looked at as they are read. Raises a `Refused` for the first row that is none; no
+        name is kept then."""
         terms, ledger = self.store.ledger.terms, self.store.ledger
-        found = _seen_rows(rows, terms)
-        if found is not None:
-            ledger.kinds.update(dict.fromkeys(row[1] for row in found))
-            return found
-        asked = [(COMMANDS.get(row[0] if row else "", ""), *row[1:]) for row in rows]
-        for at, fields in enumerate(asked, 1):
-            if not fields[0]:
-                raise refusal("BadCommand", f"row {at}: an operation is {', '.join(COMMANDS)}", advice="")
-            faults = terms.faults_of(fields)
-            if faults:
-                told = terms.refusal(faults[0])
-                raise refusal(faults[0].word, f"row {at}: {told.fault or faults[0]}")
-        found = [row_of(terms.turned(fields)[0]) for fields in asked]
-        ledger.kinds.update(dict.fromkeys(fields[1] for fields in asked if fields[0] != "x"))
+        parts: "List[Tuple[Sequence[Sequence[str]], Optional[List[Row]]]]" = []
+        count = 0
+        for part in parts_of(rows, records.MOST_OPERATIONS):
+            self._must_go_on()
+            seen = _seen_rows(part, terms)
+            parts.append((_checked_rows(part, count + 1, terms), None) if seen is None else ((), seen))
+            count += len(part)
+        self._must_go_on()
+        found: List[Row] = []
+        for asked, seen in parts:
+            operations = [row_of(terms.turned(fields)[0]) for fields in asked] if seen is None else seen
+            kinds = [it[1] for it in operations] if seen is not None else [it[1] for it in asked if it[0] != "x"]
+            ledger.kinds.update(dict.fromkeys(kinds))
+            found += operations
         return found
 
     # What is told, and the end.
@@ -243,10 +258,13 @@ class Feeding:
                 **({"error": self.fault, "reason": self.reason} if self.fault else {})}
 
     def close(self) -> None:
-        """Ends the feed that is followed: what was read goes in."""
+        """Ends the feed: what was read of one that is followed goes in, and so does what is being applied; nothing does later."""
+        self._is_over = True
         if self._following is not None and self._thread is not None:
             self._following.stop()
             self._thread.join()
+        with self._lock:  # (which a batch has as long as it is being applied)
+            pass
 
 
 def _told_of_rows(following: Optional[Apart]) -> Dict[str, Any]:
@@ -258,18 +276,18 @@ def _told_of_rows(following: Optional[Apart]) -> Dict[str, Any]:
     return {**({} if told is None else {"last_bad": told}), **({} if behind is None else {"behind": behind})}
 
 
-def without_paths(text: str, name: str) -> str:
-    """What is told of a feed of this name, as a client may know it: without places of this machine."""
-    text = re.sub(rf"{re.escape(name)}:(\d+)", r"line \1", text).replace(name, "the feed")
+def without_paths(text: str, name: str, told: str = "the feed") -> str:
+    """What is told of a feed or file of this name, as a client may know it: without places of this machine."""
+    text = re.sub(rf"{re.escape(name)}:(\d+)", r"line \1", text).replace(name, told)
     text = re.sub(r"(?<![\w.,;/])(?:~|\.{1,2})?/[^\s:'\",;]+", "..", text)
     return text if len(text) <= MOST_REASON else f"{text[:MOST_REASON]} .."
 
 
 def checked_operations(text: str) -> Operations:
     """Records of operations that a client sent. Raises a `Refused` where one breaks a rule."""
-    *lines, rest = text.split("\n")
-    if len(lines) > records.MOST_OPERATIONS:
+    if text.count("\n") > records.MOST_OPERATIONS or len(text) > LONGEST * records.MOST_OPERATIONS:
         raise refusal("BatchFull")
+    *lines, rest = text.split("\n")
     found = None if rest else _plain_rows(lines)
     if found is not None:
         return Operations(found)
@@ -283,6 +301,19 @@ def checked_operations(text: str) -> Operations:
             raise refusal("BadCommand", f"row {at} is no operation", advice="")
         rows.append(row_of(fields))
     return Operations(rows)
+
+
+def _checked_rows(rows: Sequence[Sequence[str]], first: int, terms: Terms) -> List[Tuple[str, ...]]:
+    """A client's rows as records, each with its command. Raises a `Refused` for one that is none, by its number."""
+    asked = [(COMMANDS.get(row[0] if row else "", ""), *row[1:]) for row in rows]
+    for at, fields in enumerate(asked, first):
+        if not fields[0]:
+            raise refusal("BadCommand", f"row {at}: an operation is {', '.join(COMMANDS)}", advice="")
+        faults = terms.faults_of(fields)
+        if faults:
+            told = terms.refusal(faults[0])
+            raise refusal(faults[0].word, f"row {at}: {told.fault or faults[0]}")
+    return asked
 
 
 def _seen_rows(rows: Sequence[Sequence[str]], terms: Terms) -> Optional[List[Row]]:

@@ -107,9 +107,9 @@ class Streamed:
     """A response that is written as its reader takes it. Nothing is made for one that went; and one that takes nothing for too
     long is left, so that it doesn't keep the version that it asked."""
 
-    def __init__(self, flow: Flow, first: bytes, media: str, pool: Pool, limits: ServerLimits) -> None:
+    def __init__(self, flow: Flow, first: bytes, headers: Dict[str, str], pool: Pool, limits: ServerLimits) -> None:
         self._flow, self._first, self._pool, self._limits = flow, first, pool, limits
-        self._headers = [(b"content-type", media.encode("ascii"))]
+        self._headers = [(name.encode("ascii"), value.encode("ascii")) for name, value in headers.items()]
 
     async def __call__(self, scope: Any, receive: Receive, send: Send) -> None:
         gone = asyncio.ensure_future(self._gone(receive))

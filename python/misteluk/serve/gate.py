@@ -12,6 +12,7 @@ from starlette.responses import Response
 
 from . import wire
 from .board import Full
+from .door import Door
 from .flow import Message, Receive, Send, as_json
 from .limits import LOOPBACK, RUN
 
@@ -40,8 +41,8 @@ class Gate:
     Each response has the name of the server's run. A client that says another one knew the server before this one: it is told
     so, and nothing is done for it."""
 
-    def __init__(self, app: App, token: Optional[str], is_local: bool, run: Run) -> None:
-        self._app, self._token, self._is_local, self._run = app, token, is_local, run
+    def __init__(self, app: App, token: Optional[str], is_local: bool, run: Run, door: Door) -> None:
+        self._app, self._token, self._is_local, self._run, self._door = app, token, is_local, run, door
         self.headers = [*HEADERS, (OF_RUN, run.name.encode("ascii"))]
 
     async def __call__(self, scope: Any, receive: Receive, send: Send) -> None:
@@ -59,12 +60,11 @@ class Gate:
                 has_begun = True
                 message = {**message, "headers": [*message.get("headers", []), *self.headers]}
             await send(message)
-        refused = self.refused(scope["path"], scope["headers"])
-        if refused is not None:
-            await refused(scope, receive, send_on)
-            return
         try:
-            await self._app(scope, receive, send_on)
+            refused = self.refused(scope["path"], scope["headers"])
+            if refused is None and scope["path"] not in OPEN:
+                self._door.let_in(_transport_of(send))
+            await (refused or self._app)(scope, receive, send_on)
         except Exception as fault:  # (a client is told nothing of it)
             if has_begun and isinstance(fault, Full):  # (one that doesn't take its answer is no fault of the server's)
                 _cut(send)
@@ -87,7 +87,7 @@ class Gate:
         """The same where the client isn't one that may ask."""
         host, origin = headers.get(b"host", ""), headers.get(b"origin")
         is_elsewhere = headers.get(b"sec-fetch-site") in ("cross-site", "same-site") and path not in OPEN
-        if is_elsewhere or origin and urlsplit(origin).netloc != host:
+        if is_elsewhere or origin and _place_of(origin) != host:
             return as_json(wire.fault("NotAllowed", "a page of another origin can't ask this server"), 403)
         if self._token is None:
             if not self._is_local and _name_of(host) not in LOOPBACK:
@@ -110,9 +110,22 @@ def _name_of(host: str) -> str:
         return ""
 
 
+@lru_cache(256)
+def _place_of(origin: str) -> Optional[str]:
+    """The host and port of an `Origin`; `None` where it is none."""
+    try:
+        return urlsplit(origin).netloc
+    except ValueError:
+        return None
+
+
+def _transport_of(send: Send) -> Any:
+    """The transport of a connection. (ASGI has no call for this, so it is asked of what uvicorn sends by.)"""
+    return getattr(getattr(send, "__self__", None), "transport", None)
+
+
 def _cut(send: Send) -> None:
-    """Ends the connection at once. (A `close` of it waits until its reader has taken what is written, which may be never; and
-    ASGI has no call for this, so it is asked of what uvicorn sends by.)"""
-    transport = getattr(getattr(send, "__self__", None), "transport", None)
+    """Ends the connection at once. (A `close` of it waits until its reader has taken what is written, which may be never.)"""
+    transport = _transport_of(send)
     if transport is not None:
         transport.abort()

@@ -6,10 +6,12 @@ import os
 import sys
 import threading
 import time
+import traceback
 from datetime import datetime, timezone
 from typing import IO, Any, Dict, Optional
 
 from .board import Board
+from .feeding import without_paths
 from ..errors import StoreError
 from ..files import place_of
 from ..store import Store
@@ -25,11 +27,11 @@ class Keeper:
     def __init__(self, path: str, every: float = USUAL_EVERY) -> None:
         if not 0 < every <= 1e6:
             raise ValueError(f"a version is saved every so many seconds, a number above 0, and not {every}")
-        self.path, self.every, self.fault = path, every, ""
+        self.path, self.every, self.fault, self.reason = path, every, "", ""
         # The version that the file has, and since when it may not be the last one any more; nothing where there is no file.
         self._saved: Optional[int] = None
         self._when, self._over = time.monotonic(), threading.Event()
-        self._lock = _locked(place_of(path))
+        self._saving, self._lock = threading.Lock(), _locked(place_of(path))
 
     def restored(self, **options: Any) -> "Optional[Store[Any, Any]]":
         """The store that the file has, as version 0, and `None` where there is no file. Raises `SaveFault` for one that is
@@ -59,19 +61,33 @@ class Keeper:
     def save(self, board: Board) -> None:
         """Saves the last version, if it isn't in the file. A fault is noted and told: the next time it is tried again."""
         try:
-            with board.lent() as session:
+            with self._saving, board.lent() as session:
                 if session.version != self._saved:
                     session.save(self.path, progress=False)
                 self._saved, self._when, self.fault = session.version, time.monotonic(), ""
-        except (StoreError, OSError) as fault:
-            self.fault = getattr(fault, "word", "") or type(fault).__name__
-            print(f"misteluk: the version isn't saved: {fault}", file=sys.stderr)
+        except Exception as fault:
+            self._failed(fault)
+
+    def save_last(self, board: Board) -> None:
+        """Saves at the end, when no more rows come in."""
+        try:
+            board.advance()  # (which may have failed behind the last batch)
+            self.save(board)
+        except Exception as fault:
+            self.save(board)
+            self._failed(fault)
+
+    def _failed(self, fault: Exception) -> None:
+        self.reason, self.fault = without_paths(str(fault), self.path, "the file"), getattr(fault, "word", "") or type(fault).__name__
+        print(f"misteluk: the version isn't saved: {fault}", file=sys.stderr)
+        if not isinstance(fault, (StoreError, OSError)):
+            traceback.print_exception(type(fault), fault, fault.__traceback__)
 
     def told(self) -> Dict[str, Any]:
         """The version that the file has, and how many seconds ago it was the last one; `None` where there is no file yet."""
         seconds = None if self._saved is None else round(time.monotonic() - self._when, 1)
         return {"version": self._saved, "seconds": seconds,
-                **({"error": self.fault} if self.fault else {})}
+                **({"state": "failed", "error": self.fault, "reason": self.reason} if self.fault else {})}
 
     def stop(self) -> None:
         self._over.set()

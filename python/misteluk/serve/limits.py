@@ -13,6 +13,12 @@ LOOPBACK = ("localhost", "127.0.0.1", "::1")
 RUN = "misteluk-server"
 # How many bytes of an answer's columns are written at once.
 BYTES_AT_ONCE = 1 << 18
+# How long a body is at most that is read on the loop: others wait meanwhile.
+LITTLE = 1 << 16
+# How many times as long as the longest body all that are read at once may be, and how many rows a post may have.
+BODIES, MOST_ROWS = 8, 1_000_000
+# Within how many seconds a connection has to ask something that is let in, and how many that asked nothing yet a peer may have.
+FIRST, STRANGERS = 10.0, 256
 
 
 class TooLarge(ValueError):
@@ -22,19 +28,22 @@ class TooLarge(ValueError):
 class ServerLimits(NamedTuple):
     """`idle`: after how many seconds of silence a client's version, or its seat as the feeder, is let go. `clients`: how many
     sessions there may be. `body`: how many bytes a request's body may have. `time`: how many seconds a question may take.
-    `questions`: how many questions that go over the whole graph are answered at once, and a hundred times as many may wait."""
+    `questions`: how many questions that go over the whole graph are answered at once, and a hundred times as many may wait.
+    `versions`: how many versions clients may hold, besides the newest."""
 
     idle: float = 60.0
     clients: int = 1_000
     body: int = 8 << 20
     time: float = 60.0
     questions: int = 4
+    versions: int = 64
 
     def checked(self) -> "ServerLimits":
         """Itself; raises `ValueError` where one of them is out of range."""
         within("clients", self.clients, 1, 100_000)
         within("body", self.body, 1_024, 1 << 30)
         within("questions", self.questions, 1, 64)
+        within("versions", self.versions, 1, 100_000)
         for name in ("idle", "time"):
             if not 0 < getattr(self, name) <= 1e6:
                 raise ValueError(f"{name} is a number of seconds above 0, and not {getattr(self, name)}")

@@ -15,3 +15,6 @@ def _sum(text: str) -> str:
 # sum, so that no other one runs)
 POLICY = (f"default-src 'none'; script-src 'self' 'sha256-{_sum(script())}'; style-src 'self' 'unsafe-inline'; "
           "connect-src 'self'; base-uri 'none'; form-action 'none'; frame-ancestors 'none'")
+# What a neighborhood's page may do where a browser is led to it: run its own script alone, and ask nobody.
+VIEWED = (f"default-src 'none'; script-src 'sha256-{_sum(script())}'; style-src 'unsafe-inline'; base-uri 'none'; "
+          "form-action 'none'; frame-ancestors 'none'")

@@ -5,10 +5,13 @@ import os
 import secrets
 import socket
 import stat
+import sys
 import threading
+import traceback
 from typing import Any, List, NamedTuple, Optional
 
 from .board import Board
+from .door import Door, room_for
 from .feeding import Feeding
 from .keeping import Keeper
 from .limits import LOOPBACK, ServerLimits
@@ -19,6 +22,8 @@ UNIX = "unix:"
 USUAL = "127.0.0.1:7700"
 # How many connections may be there for each client that may be, and for those that hold nothing.
 CONNECTIONS = 64
+# How many connections are taken at once at most: each has a descriptor before there is a word of who may stay.
+AT_ONCE = 64
 
 
 class Address(NamedTuple):
@@ -132,14 +137,16 @@ class Server:
             self._leave()
             raise Missing(f"{str(fault.name).partition('.')[0]}", "a server") from None
         from .direct import Responder, protocol
+        from .ending import made
         from .gate import Gate, Run
         run = Run(secrets.token_urlsafe(9), began)
         api = Api(self.board, self.feeding, self.limits, run, self._keeper)
-        gate = Gate(api.shortcut(), token, bool(self.address.path), run)
-        config = uvicorn.Config(gate, http=protocol(Responder(gate, api.answers, self.limits)), log_level="critical",
-                                access_log=False, lifespan="off", server_header=False, proxy_headers=False,
-                                limit_concurrency=self.limits.clients + CONNECTIONS, timeout_keep_alive=int(self.limits.idle) + 5)
-        return uvicorn.Server(config), api
+        self.door = Door(room_for(self.limits.clients + CONNECTIONS))
+        gate = Gate(api.shortcut(), token, bool(self.address.path), run, self.door)
+        config = uvicorn.Config(gate, http=protocol(Responder(gate, api.answers, self.limits), self.door), log_level="critical",
+                                access_log=False, lifespan="off", server_header=False, proxy_headers=False, backlog=AT_ONCE,
+                                timeout_keep_alive=int(self.limits.idle) + 5)
+        return made(uvicorn.Server, config, self.end_feed), api
 
     @property
     def url(self) -> str:
@@ -157,17 +164,20 @@ class Server:
             self._runner.run(sockets=[self._socket])
         finally:
             sweeping.set()
-            if keeper is not None:
-                keeper.stop()
+            self.end_feed()
             for it in beside:
                 it.join()
-            self.feeding.close()
             self.board.let_all_go()
-            if keeper is not None:
-                keeper.save(self.board)
             self._api.close()
             self.board.close()
             self._leave()
+
+    def end_feed(self) -> None:
+        """Takes no more rows, and saves what is in. It comes before all that may take long at the end, and once more after it."""
+        self.feeding.close()
+        if self._keeper is not None:
+            self._keeper.stop()
+            self._keeper.save_last(self.board)
 
     def _sweep(self, is_over: threading.Event) -> None:
         while not is_over.wait(min(self.limits.idle / 4, 5.0)):
@@ -175,6 +185,8 @@ class Server:
                 self.board.sweep()
             except StoreError:  # (the store was closed)
                 return
+            except Exception:
+                traceback.print_exc(file=sys.stderr)
 
     def start(self) -> "Server":
         self._thread = threading.Thread(target=self.run, name="server")

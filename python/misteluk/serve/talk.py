@@ -54,14 +54,19 @@ class Told(NamedTuple):
 
 
 class Talk:
-    """Requests to one server. `url` is `http://HOST:PORT`, `https://..`, or `unix:PATH`."""
+    """Requests to one server. `url` is `http://HOST:PORT`, `https://..`, each with a path before that of each call, or
+    `unix:PATH`."""
 
     def __init__(self, url: str, token: Optional[str] = None, timeout: float = 60.0) -> None:
         self.url, self.timeout = url, timeout
         parts = urlsplit(url)
         if not (url.startswith(UNIX) and parts.path or parts.scheme in ("http", "https") and parts.hostname):
             raise ValueError(f"a server's address is http://HOST:PORT or unix:PATH, and not {url!r}")
+        if parts.scheme in ("http", "https") and (parts.query or parts.fragment):
+            raise ValueError(f"a server's address has no ? and no #, as {url!r} has")
         self._parts = parts
+        # What stands before each call's path.
+        self._begin = quote(parts.path.rstrip("/"), safe="/%:@!$&'()*+,;=~") if parts.hostname else ""
         token = token or os.environ.get("MISTELUK_TOKEN")
         if token and not (token.isprintable() and token.isascii()):
             raise ValueError("a token has printable ASCII signs alone")
@@ -140,7 +145,7 @@ class Talk:
         run = f"\r\n{RUN}: {self.run}" if self.run else ""
         media = "" if body is None else f"\r\nContent-Type: {JSON}"
         # (the length is last: `direct` knows a head that comes again)
-        head = f"{method} {path} HTTP/1.1\r\n{self._headers}{run}{media}\r\nContent-Length: {len(given)}\r\n\r\n"
+        head = f"{method} {self._begin}{path} HTTP/1.1\r\n{self._headers}{run}{media}\r\nContent-Length: {len(given)}\r\n\r\n"
         return head.encode("latin-1") + given
 
     def call(self, method: str, path: str, body: Optional[Mapping[str, Any]] = None) -> Told:

@@ -1,0 +1,223 @@
+"""Posts of many rows: they are read beside the loop, in slices, and refused as soon as that can be seen."""
+import http.client
+import json
+import random
+import statistics
+import threading
+import time
+import unittest
+from unittest import mock
+
+from serving import HAS_PACKAGES, ServeCase
+from support import as_soon_as
+
+from misteluk.serve.limits import ServerLimits
+
+if HAS_PACKAGES:
+    from misteluk.serve import bodies
+
+SIZE = 8 << 20
+CSV, JSON = "text/csv", "application/json"
+AS_JSON = ('{"rows": ', "}")
+
+
+def filled(begin, part, end, size=SIZE):
+    """A text of about this size, of the same parts."""
+    return (begin + part * ((size - len(begin) - len(end)) // len(part)) + end).encode()
+
+
+class Readers(unittest.TestCase):
+    """What is read in slices is what `json` and `csv` read, whole or not at all."""
+
+    def value(self, chance, depth=0):
+        pick = chance.randrange(9 if depth < 4 else 6)
+        if pick < 6:
+            return (None, True, chance.randrange(-10**18, 10**18), chance.random() * 1e9, chance.choice(("", "a]", '"],[', "\\", "Иван",
+                    "\u2028", "{", "x" * chance.choice((1, 50, 2_000)))), "],"[:chance.randrange(3)])[pick]
+        many = range(chance.choice((0, 1, 3, 9)))
+        if pick < 8:
+            return [self.value(chance, depth + 1) for _ in many]
+        return {f"n{it}],": self.value(chance, depth + 1) for it in many}
+
+    def test_json(self):
+        chance = random.Random(7)
+        for _ in range(60):
+            told = {"x": self.value(chance), "rows": [self.value(chance, 2) for _ in range(chance.choice((0, 3, 3_000)))]}
+            text = json.dumps(told, ensure_ascii=chance.random() < 0.5, indent=chance.choice((None, None, 1)))
+            reader = bodies.Reader(text)
+            self.assertEqual(reader.whole(), json.loads(text))
+            reader.end()
+            self.assertEqual(bodies.loaded(text.encode("utf-8")), json.loads(text))
+
+    def test_what_is_no_json(self):
+        """Each text that `json` refuses is refused, wherever it is cut or changed."""
+        chance = random.Random(11)
+        text = json.dumps({"rows": [["add", "k", f"s{it}", "Иван]", 1.5, it] for it in range(2_000)]}, ensure_ascii=False)
+        texts = [text[:chance.randrange(len(text))] for _ in range(100)]
+        for _ in range(300):
+            at = chance.randrange(len(text))
+            texts.append(text[:at] + chance.choice('[]{},:"\\0\n x') + text[at + chance.randrange(2):])
+        for it in [*texts, text + "x", text + ",", "", " ", "[" * 100_000]:
+            try:
+                wanted = json.loads(it)["rows"]
+            except (ValueError, RecursionError):
+                self.assertRaises(ValueError, lambda: list(bodies.rows_of_json(it.encode())))
+                self.assertRaises(ValueError, bodies.loaded, it.encode() + b" " * (1 << 16))
+                continue
+            self.assertEqual(bodies.loaded(it.encode() + b" " * (1 << 16))["rows"], wanted)
+
+    def test_rows(self):
+        rows = [["add", "k", f"s{it}]", '"],', it, 1] for it in range(5_000)]
+        wanted = [tuple(map(str, it)) for it in rows]
+        for told in ({"rows": rows}, {"x": [[], {"rows": 5}], "rows": rows, "y": "rows"}):
+            for data in (json.dumps(told).encode(), json.dumps(told).encode("utf-16")):
+                self.assertEqual(list(bodies.rows_of_json(data)), wanted)
+        for wrong in ({"rows": 5}, {}, [], 5, {"rows": [5]}, {"rows": [{}]}, {"rows": [[None]]}, {"rows": [["add", "k", 1]]}):
+            self.assertRaises(ValueError, lambda: list(bodies.rows_of_json(json.dumps(wrong).encode())))
+        twice = b'{"rows": [["add"]], "rows": []}'
+        self.assertRaises(ValueError, lambda: list(bodies.rows_of_json(twice)))
+        text = 'add,"a ""b""\n\n,c",d\r\n\n\nexpire,5\n'.encode() * 3_000
+        self.assertEqual(list(bodies.rows_of_csv(text)), [("add", 'a "b"\n\n,c', "d"), ("expire", "5")] * 3_000)
+
+    def test_no_step_is_long(self):
+        """No value that one step reads is longer than a row may be; long texts outside of rows are."""
+        with mock.patch.object(bodies, "_decoded", wraps=bodies._decoded) as one, \
+                mock.patch.object(bodies.json, "loads", wraps=json.loads) as some:
+            for data in (filled('{"rows": [', "[],", "[]]}", 1 << 20), filled('{"rows": [', '["add", "k"],', "[]]}", 1 << 20),
+                         filled('{"x": [', "5,", '5], "rows": [[]]}', 1 << 20),
+                         filled('{"x": {', '"a": [[], 5],', '"b": 5}, "rows": [[]]}', 1 << 20)):
+                list(bodies.rows_of_json(data))
+                self.assertLess(max(len(it.args[0]) for it in one.call_args_list + some.call_args_list), bodies.WINDOW + 9)
+        self.assertEqual(bodies.loaded(filled('{"operations": "', "a,k,x,y,1,1\\n", '"}')),
+                         {"operations": "a,k,x,y,1,1\n" * ((SIZE - 18) // 13)})
+
+    def test_what_is_too_long(self):
+        for read, data in ((bodies.rows_of_json, filled('{"rows": [["add", "', "x", '"]]}')),
+                           (bodies.rows_of_json, filled('{"rows": [[', '"x",', '"x"]]}')),
+                           (bodies.rows_of_json, filled('{"rows": [[', "[],", "5]]}")),
+                           (bodies.rows_of_csv, filled("add,", "x", "")), (bodies.rows_of_csv, filled("add,", ",", "")),
+                           (bodies.rows_of_csv, filled("", '"\n",', ""))):
+            self.assertRaisesRegex(bodies.TooLarge, "at most 262,144 signs", lambda: list(read(data)))
+        with mock.patch.object(bodies, "MOST_ROWS", 1_000):
+            for read, data in ((bodies.rows_of_json, filled('{"rows": [', "[],", "[]]}", 9_000)),
+                               (bodies.rows_of_csv, b"expire,0\n" * 1_001)):
+                self.assertRaisesRegex(bodies.TooLarge, "at most 1,000 rows: send several", lambda: list(read(data)))
+            self.assertEqual(len(list(bodies.rows_of_csv(b"expire,0\n" * 1_000 + b"\n" * 5_000))), 1_000)
+
+
+class Posts(ServeCase):
+    """A server as a process, which is asked while 8 MB come."""
+
+    BODIES = (("rows of CSV", CSV, filled("", "add,transfer,ana,funnel,980,1\n", ""), 200),
+              ("rows of JSON", JSON, filled('{"rows": [', '["add","transfer","ana","funnel",980,1],', '["expire","0"]]}'), 200),
+              ("empty rows", JSON, filled('{"rows": [', "[],", "[]]}"), 400),
+              ("a long text", JSON, filled('{"rows": [["add", "k", "', "x", '", "b", 1, 1]]}'), 413),
+              ("a long text of CSV", CSV, filled('add,k,"', "x", '",b,1,1\n'), 413), ("other values", JSON, filled('{"x": [', "[],", '5], "rows": []}'), 400),
+              ("brackets", JSON, b"[" * SIZE, 400))
+
+    def begin(self, *words):
+        done = self.command("--listen", "127.0.0.1:0", *words)
+        self.port = int(done.stdout.readline().partition(" serves")[0].rpartition(":")[2])
+
+    def send(self, method, path, body=None, **headers):
+        link = http.client.HTTPConnection("127.0.0.1", self.port, timeout=120)
+        try:
+            link.request(method, path, body, {name.replace("_", "-"): it for name, it in headers.items()})
+            told = link.getresponse()
+            return told.status, json.loads(told.read() or b"null")
+        finally:
+            link.close()
+
+    def waits_beside(self, call):
+        """How long questions take meanwhile, in seconds, and what the call gives."""
+        found, waits = [], []
+        thread = threading.Thread(target=lambda: found.append(call()))
+        thread.start()
+        link = http.client.HTTPConnection("127.0.0.1", self.port, timeout=120)
+        while thread.is_alive():
+            begun = time.monotonic()
+            link.request("GET", "/v1/edge?kind=k&source=a&target=b")
+            told = link.getresponse()
+            self.assertEqual((told.status, len(told.read()) > 9), (200, True))
+            waits.append(time.monotonic() - begun)
+            time.sleep(0.005)
+        link.close()
+        thread.join()
+        return waits, found[0]
+
+    def test_others_are_answered_meanwhile(self):
+        """(How long a question takes on a busy machine says little: the longest of most is what is judged, beside an idle
+        server's.)"""
+        self.begin()
+        self.assertEqual(self.send("POST", "/v1/rows", b"add,k,a,b,1,1\n", Content_Type=CSV)[0], 200)
+        idle, _ = self.waits_beside(lambda: time.sleep(1))
+        bar = 0.05 + 3 * max(idle)
+        for name, kind, body, status in self.BODIES:
+            waits, told = self.waits_beside(lambda: self.send("POST", "/v1/rows", body, Content_Type=kind))
+            with self.subTest(name):
+                self.assertEqual(told[0], status, told)
+                self.assertLess(statistics.quantiles([*waits, *waits], n=50)[-1], bar, (max(idle), max(waits), len(waits)))
+
+    def test_batches_and_questions_too(self):
+        """What clients in Python send is read beside the loop as well."""
+        self.begin()
+        self.assertEqual(self.send("POST", "/v1/rows", b"add,k,a,b,1,1\n", Content_Type=CSV)[0], 200)
+        seat, session = self.send("POST", "/v1/feeder")[1]["feeder"], self.send("POST", "/v1/sessions")[1]["session"]
+        idle, _ = self.waits_beside(lambda: time.sleep(1))
+        bar = 0.05 + 3 * max(idle)
+        for path in (f"/v1/feeder/{seat}/batches/1", f"/v1/sessions/{session}/ask"):
+            for body in (filled('{"operations": [', "[],", "[]]}"), filled('{"operations": "', "\\n", '"}')):
+                waits, told = self.waits_beside(lambda: self.send("POST", path, body, Content_Type=JSON))
+                status = 413 if b"[]" in body else 409 if "batches" in path else 400
+                self.assertEqual(told[0], status, told)
+                self.assertLess(statistics.quantiles([*waits, *waits], n=50)[-1], bar, (path, max(idle), max(waits)))
+
+
+class Budgets(ServeCase):
+    def test_all_bodies_together(self):
+        """So many bytes of bodies are here at once; what is beyond is refused, and each is given back."""
+        self.serve(limits=ServerLimits(body=1_024))
+        body = b"add,k,a,b,1,1\n" * 70
+        links = []
+        self.addCleanup(lambda: [it.close() for it in links])
+        api = self.server._api
+
+        def begin(part):
+            links.append(http.client.HTTPConnection("127.0.0.1", self.server.address.port, timeout=60))
+            links[-1].putrequest("POST", "/v1/rows")
+            links[-1].putheader("Content-Type", CSV)
+            links[-1].putheader("Content-Length", str(len(body)))
+            links[-1].endheaders()
+            links[-1].send(body[:part])
+        for at in range(8):
+            begin(len(body) - 1)
+            as_soon_as(lambda: api._taken == (at + 1) * (len(body) - 1))
+        begin(len(body))
+        told = links.pop().getresponse()
+        self.assertEqual((told.status, json.loads(told.read())["error"]), (503, "TooMany"))
+        for it in links:
+            it.send(body[-1:])
+            self.assertEqual(it.getresponse().status, 200)
+        self.assertEqual((api._taken, self.rows_of("/v1/edges")[0][3]), (0, 8 * 70))
+        begin(100)
+        as_soon_as(lambda: api._taken == 100)
+        links.pop().close()
+        as_soon_as(lambda: api._taken == 0)
+
+    def test_all_or_none(self):
+        """A row that is none refuses all, wherever it is, and no name of them is kept."""
+        self.serve()
+        rows = [["add", "k", "a", f"Имя {it}", 1, 1] for it in range(10_000)]
+        for at in (0, 4_095, 4_096, 9_999):
+            wrong = [*rows[:at], ["put"], *rows[at:]]
+            found = self.post("/v1/rows", {"rows": wrong})
+            self.assertEqual((found.status, found.json), (400, {
+                "error": "BadCommand", "reason": f"row {at + 1}: an operation is insert, add, remove, expire"}))
+        names = self.server.store.ledger.terms.names
+        self.assertEqual((self.ask("/v1/stat").json["version"], len(names), len(self.server.store.kinds)), (0, 0, 0))
+        self.assertEqual(self.post("/v1/rows", {"rows": rows}).json["inserted"], 10_000)
+        self.assertEqual((len(names), list(self.server.store.kinds)), (10_000, ["k"]))
+
+
+if __name__ == "__main__":
+    unittest.main()
