@@ -17,9 +17,9 @@ from misteluk import LibraryNotFound, find_library  # noqa: E402
 # What is said of a test that is of one engine, and so isn't missed over the other.
 OF_ONE_ENGINE = r"\.\.\. skipped 'of (?:pipes|the library|the program|stores in process) alone'"
 # Files of tests that make no store, or that say themselves over which engine they run: once is enough for them.
-ONCE = ("dates", "fields", "lint", "package", "records", "release", "tables", "types", "ways_in", "serve", "serve_alive",
-        "serve_clients", "serve_docs", "serve_fuzz", "serve_apart", "serve_direct", "serve_killed", "serve_kept", "serve_page",
-        "serve_pending", "serve_talk", "serve_versions")
+ONCE = ("dates", "fields", "lint", "package", "records", "release", "tables", "types", "ways_in", "serve", "serve_access",
+        "serve_alive", "serve_apart", "serve_clients", "serve_direct", "serve_docs", "serve_door", "serve_end", "serve_faults",
+        "serve_fuzz", "serve_kept", "serve_killed", "serve_page", "serve_pending", "serve_posts", "serve_talk", "serve_versions")
 # Files of tests that also run over stores that a server has, and what a server needs.
 SERVED = ("arrays", "names", "objects", "store", "units", "view", "view_browsers", "view_dense", "walking", "walking_calls")
 OF_SERVER = ("starlette", "uvicorn")

@@ -2,7 +2,6 @@
 import http.client
 import json
 import random
-import statistics
 import threading
 import time
 import unittest
@@ -32,8 +31,8 @@ class Readers(unittest.TestCase):
     def value(self, chance, depth=0):
         pick = chance.randrange(9 if depth < 4 else 6)
         if pick < 6:
-            return (None, True, chance.randrange(-10**18, 10**18), chance.random() * 1e9, chance.choice(("", "a]", '"],[', "\\", "Иван",
-                    "\u2028", "{", "x" * chance.choice((1, 50, 2_000)))), "],"[:chance.randrange(3)])[pick]
+            text = chance.choice(("", "a]", '"],[', "\\", "Иван", "\u2028", "{", "x" * chance.choice((1, 50, 2_000))))
+            return (None, True, chance.randrange(-10**18, 10**18), chance.random() * 1e9, text, "],"[:chance.randrange(3)])[pick]
         many = range(chance.choice((0, 1, 3, 9)))
         if pick < 8:
             return [self.value(chance, depth + 1) for _ in many]
@@ -41,7 +40,7 @@ class Readers(unittest.TestCase):
 
     def test_json(self):
         chance = random.Random(7)
-        for _ in range(60):
+        for _ in range(12):
             told = {"x": self.value(chance), "rows": [self.value(chance, 2) for _ in range(chance.choice((0, 3, 3_000)))]}
             text = json.dumps(told, ensure_ascii=chance.random() < 0.5, indent=chance.choice((None, None, 1)))
             reader = bodies.Reader(text)
@@ -52,9 +51,9 @@ class Readers(unittest.TestCase):
     def test_what_is_no_json(self):
         """Each text that `json` refuses is refused, wherever it is cut or changed."""
         chance = random.Random(11)
-        text = json.dumps({"rows": [["add", "k", f"s{it}", "Иван]", 1.5, it] for it in range(2_000)]}, ensure_ascii=False)
-        texts = [text[:chance.randrange(len(text))] for _ in range(100)]
-        for _ in range(300):
+        text = json.dumps({"rows": [["add", "k", f"s{it}", "Иван]", 1.5, it] for it in range(700)]}, ensure_ascii=False)
+        texts = [text[:chance.randrange(len(text))] for _ in range(20)]
+        for _ in range(60):
             at = chance.randrange(len(text))
             texts.append(text[:at] + chance.choice('[]{},:"\\0\n x') + text[at + chance.randrange(2):])
         for it in [*texts, text + "x", text + ",", "", " ", "[" * 100_000]:
@@ -81,13 +80,19 @@ class Readers(unittest.TestCase):
 
     def test_no_step_is_long(self):
         """No value that one step reads is longer than a row may be; long texts outside of rows are."""
-        with mock.patch.object(bodies, "_decoded", wraps=bodies._decoded) as one, \
-                mock.patch.object(bodies.json, "loads", wraps=json.loads) as some:
-            for data in (filled('{"rows": [', "[],", "[]]}", 1 << 20), filled('{"rows": [', '["add", "k"],', "[]]}", 1 << 20),
-                         filled('{"x": [', "5,", '5], "rows": [[]]}', 1 << 20),
-                         filled('{"x": {', '"a": [[], 5],', '"b": 5}, "rows": [[]]}', 1 << 20)):
+        sizes = [0]
+
+        def seen(real):
+            return lambda text, *at: sizes.append(len(text)) or real(text, *at)
+        size = 1 << 17
+        with mock.patch.object(bodies, "_decoded", seen(bodies._decoded)), \
+                mock.patch.object(bodies.json, "loads", seen(json.loads)):
+            for data in (filled('{"rows": [', "[],", "[]]}", size), filled('{"rows": [', '["add", "k"],', "[]]}", size),
+                         filled('{"x": [', "5,", '5], "rows": [[]]}', size),
+                         filled('{"x": {', '"a": [[], 5],', '"b": 5}, "rows": [[]]}', size)):
                 list(bodies.rows_of_json(data))
-                self.assertLess(max(len(it.args[0]) for it in one.call_args_list + some.call_args_list), bodies.WINDOW + 9)
+                self.assertLess(max(sizes), bodies.WINDOW + 9)
+                self.assertGreater(len(sizes), size // bodies.WINDOW)
         self.assertEqual(bodies.loaded(filled('{"operations": "', "a,k,x,y,1,1\\n", '"}')),
                          {"operations": "a,k,x,y,1,1\n" * ((SIZE - 18) // 13)})
 
@@ -112,7 +117,7 @@ class Posts(ServeCase):
               ("rows of JSON", JSON, filled('{"rows": [', '["add","transfer","ana","funnel",980,1],', '["expire","0"]]}'), 200),
               ("empty rows", JSON, filled('{"rows": [', "[],", "[]]}"), 400),
               ("a long text", JSON, filled('{"rows": [["add", "k", "', "x", '", "b", 1, 1]]}'), 413),
-              ("a long text of CSV", CSV, filled('add,k,"', "x", '",b,1,1\n'), 413), ("other values", JSON, filled('{"x": [', "[],", '5], "rows": []}'), 400),
+              ("other values", JSON, filled('{"x": [', "[],", '5], "rows": []}'), 400),
               ("brackets", JSON, b"[" * SIZE, 400))
 
     def begin(self, *words):
@@ -145,32 +150,32 @@ class Posts(ServeCase):
         thread.join()
         return waits, found[0]
 
+    def must_be_short(self, call, status):
+        """No question waits for the reading of a post, which takes seconds, in one of some tries: a busy machine delays one too.
+        (What is read by one step `test_no_step_is_long` says.)"""
+        longest = []
+        while not longest or longest[-1] >= 0.4:
+            self.assertLess(len(longest), 4, f"others waited {longest} s")
+            waits, told = self.waits_beside(call)
+            self.assertEqual(told[0], status, told)
+            longest.append(max(waits))
+
     def test_others_are_answered_meanwhile(self):
-        """(How long a question takes on a busy machine says little: the longest of most is what is judged, beside an idle
-        server's.)"""
         self.begin()
         self.assertEqual(self.send("POST", "/v1/rows", b"add,k,a,b,1,1\n", Content_Type=CSV)[0], 200)
-        idle, _ = self.waits_beside(lambda: time.sleep(1))
-        bar = 0.05 + 3 * max(idle)
         for name, kind, body, status in self.BODIES:
-            waits, told = self.waits_beside(lambda: self.send("POST", "/v1/rows", body, Content_Type=kind))
             with self.subTest(name):
-                self.assertEqual(told[0], status, told)
-                self.assertLess(statistics.quantiles([*waits, *waits], n=50)[-1], bar, (max(idle), max(waits), len(waits)))
+                self.must_be_short(lambda: self.send("POST", "/v1/rows", body, Content_Type=kind), status)
 
     def test_batches_and_questions_too(self):
         """What clients in Python send is read beside the loop as well."""
         self.begin()
         self.assertEqual(self.send("POST", "/v1/rows", b"add,k,a,b,1,1\n", Content_Type=CSV)[0], 200)
         seat, session = self.send("POST", "/v1/feeder")[1]["feeder"], self.send("POST", "/v1/sessions")[1]["session"]
-        idle, _ = self.waits_beside(lambda: time.sleep(1))
-        bar = 0.05 + 3 * max(idle)
+        sent = (filled('{"operations": [', "[],", "[]]}"), 413), (filled('{"operations": "', "\\n", '"}'), 400)
         for path in (f"/v1/feeder/{seat}/batches/1", f"/v1/sessions/{session}/ask"):
-            for body in (filled('{"operations": [', "[],", "[]]}"), filled('{"operations": "', "\\n", '"}')):
-                waits, told = self.waits_beside(lambda: self.send("POST", path, body, Content_Type=JSON))
-                status = 413 if b"[]" in body else 409 if "batches" in path else 400
-                self.assertEqual(told[0], status, told)
-                self.assertLess(statistics.quantiles([*waits, *waits], n=50)[-1], bar, (path, max(idle), max(waits)))
+            for body, status in sent:
+                self.must_be_short(lambda: self.send("POST", path, body, Content_Type=JSON), status)
 
 
 class Budgets(ServeCase):

@@ -65,13 +65,14 @@ def serve(words: argparse.Namespace, how: Dict[str, Any]) -> int:
         raise ValueError("a file that is followed is read again at the start: --save is for rows that a pipe or clients bring")
     token = token_of(words.token_file)
     with contextlib.ExitStack() as ends:
+        for it, done in SIGNALS.items():
+            ends.callback(signal.signal, it, signal.signal(it, done))
         keeper = None if words.save is None else ends.enter_context(contextlib.closing(Keeper(words.save, words.save_every)))
         store, began = store_of(words, keeper)
         ends.enter_context(store)
         store.engine.fit(0, 0, ROOM)
         raise_descriptors()
         server = Server(store, words.listen, token=token, limits=limits, keeper=keeper, began=began)
-        before = {it: signal.signal(it, done) for it, done in SIGNALS.items()}
         sys_turn = sys.getswitchinterval()
         sys.setswitchinterval(TURN)
         # (what is here by now stays to the end: a look through all of it for cycles would stop every question)
@@ -86,8 +87,6 @@ def serve(words: argparse.Namespace, how: Dict[str, Any]) -> int:
         finally:
             gc.unfreeze()
             sys.setswitchinterval(sys_turn)
-            for it, was in before.items():
-                signal.signal(it, was)
     bad = server.feeding.told()["bad"]
     skipped = f"; {bad} bad rows were passed over" if bad else ""
     print(f"misteluk: ended at version {server.board.stat.version}, of {server.board.stat.edges} edges{skipped}", file=sys.stderr)

@@ -6,7 +6,11 @@ Choices:
   server too. Engines speak in columns of bytes; calls as JSON are for `curl` and other languages.
 - Whoever commits a version holds it right away, so no question waits for the feed. A session is closed outside of the board's
   lock, because that waits for a batch that is being applied.
-- At most 16 versions are held, by any number of clients: clients of one version share its seat.
+- Clients of one version share its hold. The library holds 16 versions of a desk: at the 17th the desk begins anew, and those
+  that are held stay. So the newest has a place whatever clients hold.
+- A connection is a stranger's until a request of it is let in. Strangers have 10 s, and the oldest makes room for who comes.
+- A post is read by the feed's thread in slices, since Python's parsers of JSON keep its lock to the end of a text.
+- At the end a save comes before all that may take long.
 - Rows of one post that are several batches are no version until all are in, so nobody sees or saves a part of them.
 - A silent client loses its hold, and only a request breaks the silence. So a notebook that was left open keeps no version, unless
   it asked for that; then a thread makes requests as long as the session is there.

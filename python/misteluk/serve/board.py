@@ -58,7 +58,7 @@ class HeldVersion(NamedTuple):
 
 class Board:
     """The versions of a store that are held. Whoever feeds the store calls `advance` behind each commit; so a question for the
-    last version never waits for the feed. The last version is always held, whatever clients hold; those are `versions` at most."""
+    last version never waits for the feed. It is always held, whatever clients hold; those are `versions` at most."""
 
     def __init__(self, store: "Store[Any, Any]", limits: ServerLimits, clock: Callable[[], float] = time.monotonic) -> None:
         self.store, self.limits, self._clock = store, limits, clock

@@ -1,7 +1,7 @@
 """Bodies of requests, read in slices: no step keeps Python's lock for long, so that others are answered while a long one is read.
 
-A call of C keeps the lock to its end, and one for a whole body of megabytes would take seconds. So a text of JSON is read value by
-value, each within a window, and one of CSV line by line.
+A call of C keeps the lock to its end, and one for a whole body of megabytes would take seconds. So a text of JSON is read value
+by value, each within a window, and one of CSV line by line.
 """
 from __future__ import annotations
 
@@ -10,7 +10,7 @@ import io
 import json
 import re
 from json import JSONDecodeError, decoder
-from typing import Any, Iterator, List, Sequence, Tuple
+from typing import Any, Iterator, List, Optional, Sequence, Tuple
 
 from .limits import LITTLE, MOST_ROWS, TooLarge
 from ..values.texts import text_of
@@ -34,6 +34,8 @@ class Reader:
 
     def __init__(self, text: str) -> None:
         self._text, self._at = text, 0
+        # The part in which a value was looked for last, and where it begins.
+        self._window, self._begin = "", 0
 
     def sign(self) -> str:
         """The next sign that is no space; none at the end."""
@@ -49,17 +51,18 @@ class Reader:
     def value(self) -> Any:
         """The value that stands here. Raises `TooLarge` where it is longer than a row may be."""
         self.sign()
-        for size in (WINDOW, LONGEST):
-            window = self._text[self._at:self._at + size]
-            is_whole = self._at + size >= len(self._text)
+        for size in (0, WINDOW, LONGEST):
+            if size:
+                self._begin, self._window = self._at, self._text[self._at:self._at + size]
+            is_whole = self._begin + len(self._window) >= len(self._text)
             try:
-                found, end = _decoded(window)
+                found, end = _decoded(self._window, self._at - self._begin)
             except JSONDecodeError as fault:
                 if is_whole or size == LONGEST and not _is_cut(fault, size):
-                    raise JSONDecodeError(fault.msg, "", self._at + fault.pos) from None
+                    raise JSONDecodeError(fault.msg, "", self._begin + fault.pos) from None
                 continue
-            if is_whole or end < size:
-                self._at += end
+            if is_whole or end < len(self._window):
+                self._at = self._begin + end
                 return found
         raise TooLarge(f"a row, or another value within an array, has at most {LONGEST:,} signs")
 
@@ -75,17 +78,15 @@ class Reader:
         self.take("]", "Expecting ',' delimiter")
 
     def _some(self) -> List[Any]:
-        """Values from here on: all to the last array that ends in the window, where it is seen that way, and else one. (A window
-        that is cut within a text, or an array, is no JSON: no other values are read than those that stand there.)"""
-        window = self._text[self._at:self._at + WINDOW]
-        end = window.rfind("],") + 1
-        if end:
-            try:
-                found: List[Any] = json.loads(f"[{window[:end]}]")
-                self._at += end
-                return found
-            except ValueError:
-                pass
+        """Values from here on: those that end in the window, where it is seen that way, and else one. (What is cut within a text,
+        an array or an object is no JSON: no other values are read than those that stand there.)"""
+        for size in (WINDOW, WINDOW // 16):
+            window = self._text[self._at:self._at + size]
+            for end in (window.rfind("],") + 1, window.rfind(",")):
+                found = _list_of(window[:end]) if end > 0 else None
+                if found:
+                    self._at += end
+                    return found
         return [self.value()]
 
     def names(self) -> Iterator[str]:
@@ -137,6 +138,15 @@ class Reader:
     def end(self) -> None:
         if self.sign():
             raise JSONDecodeError("Extra data", "", self._at)
+
+
+def _list_of(text: str) -> Optional[List[Any]]:
+    """The values of a text in which they are parted by commas; `None` where that isn't JSON."""
+    try:
+        found: List[Any] = json.loads(f"[{text}]")
+        return found
+    except ValueError:
+        return None
 
 
 def _is_cut(fault: JSONDecodeError, size: int) -> bool:

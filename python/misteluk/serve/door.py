@@ -1,7 +1,7 @@
 """The connections of a server: how many there may be, and for how long one stays that asked nothing that was let in.
 
-Whoever has no token may open connections too. So each is a stranger's until a request of it is let in; a stranger has little time,
-and where there is no room for another connection the one that has been a stranger's for the longest makes room.
+Whoever has no token may open connections too. So each is a stranger's until a request of it is let in; a stranger has little
+time, and where there is no room for another connection the one that has been a stranger's for the longest makes room.
 """
 from __future__ import annotations
 
@@ -123,7 +123,7 @@ class AtDoor(_Protocol):  # type: ignore[misc]
             self.begun = 0.0
 
     def _wait_for_head(self) -> None:
-        """Ends the connection where the rest of a head doesn't come in time. (As the next bytes come uvicorn stops this timer.)"""
+        """Ends the connection where the rest of a head doesn't come in time. (The next bytes stop this timer.)"""
         now = self.loop.time()
         self.begun = self.begun or now
         left = max(self.begun + self.door.first - now, 0.0)

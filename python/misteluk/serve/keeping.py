@@ -78,7 +78,8 @@ class Keeper:
             self._failed(fault)
 
     def _failed(self, fault: Exception) -> None:
-        self.reason, self.fault = without_paths(str(fault), self.path, "the file"), getattr(fault, "word", "") or type(fault).__name__
+        self.reason = without_paths(str(fault), self.path, "the file")
+        self.fault = getattr(fault, "word", "") or type(fault).__name__
         print(f"misteluk: the version isn't saved: {fault}", file=sys.stderr)
         if not isinstance(fault, (StoreError, OSError)):
             traceback.print_exception(type(fault), fault, fault.__traceback__)

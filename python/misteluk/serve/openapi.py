@@ -8,14 +8,16 @@ from ..version import VERSION
 
 # What each fault is told for, by its status.
 FAULTS = {400: "it isn't asked so", 401: "the token is wrong or lacks", 404: "the version has no such vertex or kind",
-          410: "the session's version was let go", 503: "no seat, or too many ask; `Retry-After` has seconds"}
+          410: "the session's version was let go", 413: "it is too long",
+          503: "no seat, or too many ask; `Retry-After` has seconds"}
 # Calls beside the questions: what each does, and what its body is.
 CALLS: Dict[str, Dict[str, Any]] = {
     "/v1/stat": {"get": "what the store holds, who holds which version, how fast it is fed, and which rows weren't taken"},
     "/v1/sessions": {"post": "holds the last version, or `version`, until the session is let go or silent too long"},
     "/v1/sessions/{session}": {"put": "says that the session is in use", "delete": "lets its version go"},
     "/v1/sessions/{session}/ask": {"post": "a question of the client in Python, whose answer is columns of bytes"},
-    "/v1/rows": {"post": "applies rows: text/csv or JSON, each an operation (insert, add, remove, expire) and its fields"},
+    "/v1/rows": {"post": "applies rows, a million at most: text/csv or JSON, each an operation (insert, add, remove, "
+                         "expire) and its fields"},
     "/v1/feeder": {"post": "takes the seat of the one that feeds the store; 409 where another has it"},
     "/v1/feeder/{feeder}": {"delete": "gives that seat back"},
     "/v1/feeder/{feeder}/batches/{number}": {"post": "a batch of the client in Python, applied once for each number",

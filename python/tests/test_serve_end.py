@@ -1,0 +1,119 @@
+"""How a server ends, and what doesn't end it: what was acknowledged is saved before anything else."""
+import os
+import signal
+import socket
+import threading
+import time
+import unittest
+
+from serving import FEED, ServeCase
+from support import as_soon_as
+
+from misteluk import Busy, Edge, Served, Store
+
+
+class Signals(ServeCase):
+    """`misteluk serve --save` as a process."""
+
+    def setUp(self):
+        super().setUp()
+        self.path, self.saved = str(self.room / "socket"), str(self.room / "graph.gz")
+
+    def begin(self, *words):
+        done = self.command("--listen", f"unix:{self.path}", "--save", self.saved, "--save-every", "1000", *words)
+        self.assertIn("serves", done.stdout.readline())
+        return done
+
+    def client(self):
+        store = Served(f"unix:{self.path}")
+        self.addCleanup(store.close)
+        return store
+
+    def in_file(self):
+        found = Store.restore(self.saved)
+        self.addCleanup(found.close)
+        return sorted(found.open().edges())
+
+    def test_a_terminal_that_goes(self):
+        """SIGHUP ends nothing, neither at the start nor later."""
+        done = self.command("--listen", f"unix:{self.path}", "--save", self.saved)
+        as_soon_as(lambda: os.path.exists(f"{self.saved}.lock"))
+        done.send_signal(signal.SIGHUP)
+        self.assertIn("serves", done.stdout.readline())
+        store = self.client()
+        for at in range(3):
+            done.send_signal(signal.SIGHUP)
+            store.add("k", "a", "b", 5, at)
+            self.assertEqual(store.commit().version, at + 1)
+        self.assertIsNone(done.poll())
+        done.send_signal(signal.SIGTERM)
+        done.communicate(timeout=60)
+        self.assertEqual((done.returncode, self.in_file()), (0, [("k", "a", "b", Edge(15, 0, 2))]))
+
+    def test_what_was_acknowledged_is_saved_first(self):
+        """A reader that takes nothing of its answer delays no save, and the end by a few seconds alone."""
+        done, store = self.begin(), self.client()
+        store.load([(f"s{it % 300}", f"target-{it // 300}", it, it) for it in range(200_000)], by="set", progress=False)
+        with socket.socket(socket.AF_UNIX, socket.SOCK_STREAM) as reader:
+            reader.connect(self.path)
+            reader.sendall(b"GET /v1/edges HTTP/1.1\r\nHost: localhost\r\n\r\n")
+            self.assertTrue(reader.recv(1 << 10))
+            store.add("k", "last", "b", 5, 1)
+            store.commit()
+            done.send_signal(signal.SIGTERM)
+            as_soon_as(lambda: os.path.exists(self.saved))
+            begun = time.monotonic()
+            self.assertIsNone(done.poll())  # (the reader has time yet)
+            done.communicate(timeout=120)
+        self.assertEqual(done.returncode, 0)
+        self.assertLess(time.monotonic() - begun, 30)  # (by idleness alone it would take 60 s)
+        found = Store.restore(self.saved)
+        self.addCleanup(found.close)
+        self.assertEqual(found.open().edge("k", "last", "b"), Edge(5, 1, 1))
+
+    def test_commits_until_the_end(self):
+        """Each commit that was acknowledged is in the file, and none that was refused."""
+        done, store = self.begin(), self.client()
+        acknowledged, met = [], []
+
+        def feed():
+            try:
+                for at in range(1_000_000):
+                    store.add("k", "a", f"b{at}", 1, 1)
+                    store.commit()
+                    acknowledged.append(f"b{at}")
+            except Exception as fault:
+                met.append(fault)
+        thread = threading.Thread(target=feed)
+        thread.start()
+        as_soon_as(lambda: len(acknowledged) > 50)
+        done.send_signal(signal.SIGTERM)
+        done.communicate(timeout=120)
+        thread.join()
+        store.discard()
+        self.assertEqual(done.returncode, 0)
+        names = {it[2] for it in self.in_file()}
+        self.assertEqual(set(acknowledged) - names, set())
+        self.assertLessEqual(len(names - set(acknowledged)), 1 if not isinstance(met[0], Busy) else 0)
+
+
+class Ends(ServeCase):
+    def test_no_rows_come_in_at_the_end(self):
+        """Each way of them is told so; questions are answered still."""
+        self.fed()
+        with Served(self.server.url) as store:
+            store.add("k", "a", "b", 5, 1)
+            store.commit()
+            seat = store.engine._feeder
+            self.server.feeding.close()
+            self.assertEqual(self.post(f"/v1/feeder/{seat}/batches/9", {"operations": "a,k,x,y,5,1\n"}).json["error"], "Busy")
+            store.add("k", "a", "c", 5, 1)
+            self.assertRaisesRegex(Busy, "this server ends", store.commit)
+            self.assertEqual(store.discard(), 1)
+        told = self.post("/v1/rows", {"rows": FEED})
+        self.assertEqual((told.status, told.json["error"], self.post("/v1/feeder").status), (409, "Busy", 409))
+        self.assertEqual((self.ask("/v1/stat").json["version"], self.ask("/v1/cores").status), (2, 200))
+
+
+if __name__ == "__main__":
+    unittest.main()
