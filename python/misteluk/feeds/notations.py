@@ -7,7 +7,8 @@ from typing import Dict, Iterator, NamedTuple, Optional
 
 from .feed import Block, Feed, Table, came_of
 from ..values.texts import together
-from ..values.units import EPOCH, MICROSECOND, each_once
+from ..values.dates import MICROSECOND
+from ..values.units import EPOCH, each_once
 
 DECIMALS = (".", ",")
 # For each form of a date its pattern; behind the date a time of day may stand, which is taken as it is.

@@ -62,8 +62,9 @@ def _column(name: str, values: Any) -> List[Any]:
         raise FeedFault(f"{told} {type(values).__name__}, {reprlib.repr(values)}: give a list or array, which has a value for "
                         "each row")
     must_not_be_masked(values, told)
-    if getattr(values, "ndim", 1) != 1:
-        raise FeedFault(f"{told} an array of {values.ndim} dimensions: give each column by itself, as array[:, 0]")
+    dimensions = getattr(values, "ndim", 1)
+    if dimensions != 1:
+        raise FeedFault(f"{told} an array of {dimensions} dimensions: give each column by itself, as array[:, 0]")
     return values_of(values)
 
 

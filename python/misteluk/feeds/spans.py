@@ -8,7 +8,8 @@ from typing import Optional, Union
 
 from ..values import records
 from ..values.limits import within
-from ..values.units import MICROSECOND, Units
+from ..values.dates import MICROSECOND
+from ..values.units import Units
 
 Span = Union[str, int, float, timedelta]
 # A day, in microseconds, and what is told of a length of time.
