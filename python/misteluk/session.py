@@ -3,6 +3,7 @@ from __future__ import annotations
 
 import operator
 from array import array
+from contextlib import suppress
 from typing import (TYPE_CHECKING, Any, Callable, Dict, Generic, Iterable, Iterator, List, Optional, Sequence, Tuple, TypeVar,
                     Union, overload)
 
@@ -51,8 +52,8 @@ class Session(Generic[W, T]):
     def __init__(self, store: "Store[W, T]", held: Held) -> None:
         self.store, self.held = store, held
         self.slot, self.version, self.names = held.slot, held.number, held.count
-        self._names: Optional[List[str]] = None
-        self._kinds: Optional[List[str]] = None
+        self._names: Optional[Tuple[str, ...]] = None
+        self._kinds: Optional[Tuple[str, ...]] = None
 
     @property
     def is_open(self) -> bool:
@@ -96,10 +97,10 @@ class Session(Generic[W, T]):
         of_kind = None if kind in (None, records.ANY) else terms.names.to_program(str(kind), keep=False)
         return Scope(of_kind, begin, end), told
 
-    def _all_names(self) -> List[str]:
+    def _all_names(self) -> Tuple[str, ...]:
         """The vertices by number, as a user names them."""
         if self._names is None:
-            self._names = list(self._terms.names.all_to_user(self.held.names()))
+            self._names = tuple(self._terms.names.all_to_user(self.held.names()))
         return self._names
 
     def _answer(self, value: str, asked: Called, columns: Dict[str, Values],
@@ -108,10 +109,14 @@ class Session(Generic[W, T]):
         found: Answer[Any] = Answer.of(names, columns, self.version, str(asked), value)
         return found
 
-    def _edges(self, found: Arrays) -> Edges:
+    def _all_kinds(self) -> Tuple[str, ...]:
+        """The kinds by number, as a user names them."""
         if self._kinds is None:
-            self._kinds = list(self._terms.names.all_to_user(self.held.kinds()))
-        return Edges(self._kinds, self._all_names(), self._terms.units, found)
+            self._kinds = tuple(self._terms.names.all_to_user(self.held.kinds()))
+        return self._kinds
+
+    def _edges(self, found: Arrays) -> Edges:
+        return Edges(self._kinds or self._all_kinds(), self._names or self._all_names(), self._terms.units, found)
 
     # Tables.
 
@@ -121,7 +126,7 @@ class Session(Generic[W, T]):
         name = self._terms.asked(source)
         reached, levels = self._asked(self.held.levels, asked, scope, name)
         names = self._all_names()
-        names = names if len(reached) == len(names) else list(map(names.__getitem__, reached))
+        names = names if len(reached) == len(names) else tuple(map(names.__getitem__, reached))
         return self._answer("level", asked, {"level": Values(levels)}, names)
 
     def components(self, kind: Optional[str] = None, since: Moment = 0, until: Moment = LAST) -> Components:
@@ -247,8 +252,8 @@ class Session(Generic[W, T]):
     def diff(self, later: "Session[Any, Any]", kind: Optional[str] = None, since: Moment = 0, until: Moment = LAST) -> Diff:
         """What became of this version's edges in a later one, or in another store's with the same units: which are gone, which
         are new, and which have another weight or time. See `misteluk.Diff`."""
-        if later.store.units != self.store.units:
-            raise ValueError(f"the sessions' stores have other units: {self.store.units}, and {later.store.units}")
+        if later._terms.units != self._terms.units:
+            raise ValueError(f"the sessions' stores have other units: {self._terms.units}, and {later._terms.units}")
         return Diff(*(it._edges_or_none(kind, since, until) for it in (self, later)))
 
     def _edges_or_none(self, kind: Optional[str], since: Moment, until: Moment) -> Edges:
@@ -346,11 +351,10 @@ class Session(Generic[W, T]):
         raise TypeError(f"a name, or a kind, source and target, may be in a session, and not {it!r}")
 
     def _has(self, name: str) -> bool:
-        try:
+        with suppress(NoVertex):
             self.edges_out_of(name)
-        except NoVertex:
-            return False
-        return True
+            return True
+        return False
 
     def __len__(self) -> int:
         """How many edges the version has."""
@@ -387,11 +391,11 @@ class Session(Generic[W, T]):
 
     def _repr_html_(self) -> str:
         """What a notebook shows."""
-        if not self.is_open:
-            return shown_as_html(f"Session of version {self.version}", {"state": "closed"})
-        count = len(self)
-        return shown_as_html(f"Session of version {self.version}", {
-            "vertices": self.names, "edges": count, "kinds": ", ".join(self._terms.names.all_to_user(self.held.kinds()))})
+        told: Dict[str, object] = {"state": "closed"}
+        with suppress(SessionClosed):
+            self.must_be_open()
+            told = {"vertices": self.names, "edges": len(self), "kinds": ", ".join(self._all_kinds())}
+        return shown_as_html(f"Session of version {self.version}", told)
 
     def __repr__(self) -> str:
         return f"<Session of version {self.version} in slot {self.slot}: {'open' if self.is_open else 'closed'}>"

@@ -30,7 +30,7 @@ class Tables(Case):
         self.assertEqual([list(it.values) for it in degrees.columns.values()], [[2, 1, 0], [0, 1, 2], [8, 7, 0]])
         self.assertIsNone(degrees._rows)
         self.assertEqual(degrees, {"ulm": (2, 0, 8), "kiel": (1, 1, 7), "bonn": (0, 2, 0)})
-        self.assertIs(degrees.dict(), degrees.dict())
+        self.assertIsNot(degrees.dict(), degrees.dict())
         self.assertEqual(json.loads(json.dumps(self.store(*ROADS).open().levels("ulm").dict())), {"ulm": 0, "kiel": 1, "bonn": 1})
 
     def test_it_is_a_mapping(self):
@@ -62,6 +62,61 @@ class Tables(Case):
         self.assertEqual(session.components().numpy()["label"].tolist(), ["ulm"] * 3)
         frame = session.degrees().frame()
         self.assertEqual((list(frame.index), frame["weight_out"].tolist()), (["ulm", "kiel", "bonn"], [8.0, 7.0, 0.0]))
+
+
+class Shown(Case):
+    """How answers are shown: all rows of a few, and of many the first and the last ones."""
+
+    def test_tables(self):
+        for count in (0, 1, 60):
+            rows = {f"v{it}": it for it in range(count)}
+            self.assertEqual((repr(misteluk.Answer(rows)), str(misteluk.Answer(rows))), (repr(rows), repr(rows)))
+        many = misteluk.Answer({f"v{it}": it for it in range(26_400)})
+        self.assertEqual(repr(many), "{'v0': 0, 'v1': 1, 'v2': 2, 'v3': 3, 'v4': 4, .., 'v26395': 26395, 'v26396': 26396, "
+                         "'v26397': 26397, 'v26398': 26398, 'v26399': 26399} of 26,400 names")
+        session = self.store(*(f"insert k v v{it:02} 1 {it}" for it in range(60))).open()
+        for ask in (session.degrees, session.components, lambda: session.levels("v")):
+            table, rows = ask(), [f"{name!r}: {it!r}" for name, it in ask().items()]
+            self.assertEqual(repr(table), f"{{{', '.join([*rows[:5], '..', *rows[-5:]])}}} of 61 names")
+            self.assertIn("<p>61 names of version 1: ", table._repr_html_())
+            self.assertIsNone(table._rows)
+
+    def test_edges(self):
+        few, many = (self.store(*(f"insert k v v{it:02} {it} 1" for it in range(count))).open() for count in (1, 61))
+        edges = many.edges_columns()
+        row = "('k', 'v', 'v00', Edge(weight=0, first=1, recent=1))"
+        self.assertEqual(repr(few.edges_columns()), f"<1 edge of 1 kind and 2 names: {row}>")
+        self.assertEqual(repr(edges), f"<61 edges of 1 kind and 62 names: {', '.join([*map(repr, edges[:5]), '..'])}, "
+                         f"{', '.join(map(repr, edges[-5:]))}>")
+        self.assertEqual(repr(edges[:0]), "<0 edges of 1 kind and 62 names>")
+        self.assertEqual(repr(edges.weight), "ReadOnlyArray('q', [0, 1, 2, 3, 4, .., 56, 57, 58, 59, 60]) of 61 numbers")
+        self.assertEqual(repr(edges.weight[:2]), "ReadOnlyArray('q', [0, 1])")
+        head = "".join(f"<td>{it}</td>" for it in ("kind", "source", "target", "weight", "first", "recent"))
+        self.assertEqual(few.edges_columns()._repr_html_(), f"<table><tr>{head}</tr><tr><td>k</td><td>v</td><td>v00</td>"
+                         "<td>0</td><td>1</td><td>1</td></tr></table><p>1 edge of 1 kind and 2 names</p>")
+        self.assertEqual(edges._repr_html_().count("<tr>"), 11)
+
+    def test_differences(self):
+        before, after = self.store("insert k a <b> 1 1", "insert k a c 2 2").open(), self.store("insert k a c 3 2").open()
+        told = before.diff(after)._repr_html_()
+        for row in (("gone", "k", "a", "&lt;b&gt;", 1, 1, 1, "", "", ""), ("changed", "k", "a", "c", 2, 2, 2, 3, 2, 2)):
+            self.assertIn(f"<tr>{''.join(f'<td>{it}</td>' for it in row)}</tr>", told)
+        self.assertIn("<p>1 gone, 0 new, 1 changed</p>", told)
+        self.assertIn("<tr><td>new</td><td>k</td><td>a</td><td>&lt;b&gt;</td><td></td>", after.diff(before)._repr_html_())
+        many = self.store(*(f"insert k a v{it} 1 1" for it in range(1_200))).open()
+        self.assertEqual(repr(many.diff(after)), "<Diff: 1,200 gone, 1 new, 0 changed>")
+        self.assertEqual(many.diff(after)._repr_html_().count("<tr>"), 12)
+
+    def test_what_a_load_and_a_store_say(self):
+        store = self.store()
+        loaded = store.load(self.file("<a>.csv", "source,target\na,b\na,c\n"), by="set", progress=False)
+        self.assertIn("<table><caption>Stat</caption><tr><th>version</th><td>1</td></tr><tr><th>names</th><td>3</td></tr>",
+                      store.stat()._repr_html_())
+        told = loaded._repr_html_()
+        for row in ("<caption>Loaded</caption>", "<th>rows</th><td>2</td>", "<th>inserted</th><td>2</td>", "&lt;a&gt;.csv</td>",
+                    "<th>bad rows</th><td>0</td>"):
+            self.assertIn(row, told)
+        self.assertNotIn("<a>", told)
 
 
 class ByTarget(unittest.TestCase):
@@ -168,9 +223,9 @@ class EdgesOfAVersion(Case):
     def test_edges_of_a_source_that_begin_elsewhere_are_found(self):
         rows = "insert k v1 v2 1 1", "insert k v2 v1 1 1", "insert l v1 v1 1 1"
         with mock.patch.object(fields, "MANY", 0), self.store(*rows).open() as session:
-            self.assertEqual((self.differing(session), list(session.held._begins)), ([], [0, 2, 3]))
+            self.assertEqual((self.differing(session), list(session.held.kept.begins)), ([], [0, 2, 3]))
             for wrong in (array("I", (0, 1, 3)), array("I", (0, 2, 2)), array("I", (1, 2, 3))):
-                with mock.patch.object(session.held, "_begins", wrong):
+                with mock.patch.object(session.held.kept, "begins", wrong):
                     self.assertNotEqual(self.differing(session), [])
 
     def test_windows_and_kinds(self):
@@ -206,6 +261,34 @@ class EdgesOfAVersion(Case):
         other = self.store(*ROADS[::-1]).open()  # (another store, with other numbers)
         self.assertFalse(first.diff(other))
         self.assertRaisesRegex(ValueError, "other units", first.diff, self.store(weight_scale=10).open())
+
+    def test_a_difference_of_each_field(self):
+        """An edge that differs in one field alone has changed, and nothing else did."""
+        before = {"weight": 5, "first": 2, "recent": 6}
+        for field in (None, *before):
+            after = {it: value + (it == field) for it, value in before.items()}
+            earlier, later = (self.store(
+                "insert road ulm kiel 1 1", f"insert road kiel bonn {it['weight']} {it['first']}",
+                f"insert road kiel bonn {it['weight']} {it['recent']}").open() for it in (before, after))
+            wanted = [] if field is None else [Changed("road", "kiel", "bonn", Edge(**before), Edge(**after))]
+            with self.subTest(field=field):
+                diff = earlier.diff(later)
+                self.assertEqual((diff.changed, diff.counts(), bool(diff)), (
+                    wanted, {"gone": 0, "new": 0, "changed": len(wanted)}, bool(wanted)))
+
+    def test_the_edges_with_the_greatest_values(self):
+        """Equal ones stand in the order of the edges."""
+        rows = (("a", 3, 1, 9), ("b", 7, 5, 8), ("c", 3, 5, 9), ("d", 7, 1, 9), ("e", -7, 5, 5), ("f", 3, 5, 9))
+        session = self.store(*(f"insert k v {it} {weight} {time}" for it, weight, first, recent in rows
+                               for time in (first, recent))).open()
+        edges = session.edges_columns()
+        self.assertEqual([it[2] for it in edges], list("abcdef"))
+        for by, count, wanted in (("weight", 3, "bda"), ("weight", 6, "bdacfe"), ("weight", 9, "bdacfe"), ("weight", 0, ""),
+                                  ("first", 3, "bce"), ("first", 6, "bcefad"), ("recent", 2, "ac"), ("recent", 5, "acdfb")):
+            with self.subTest(by=by, count=count):
+                self.assertEqual("".join(it[2] for it in edges.top(count, by)), wanted)
+        self.assertEqual(edges.top(3), edges.top(3, "weight"))
+        self.assertRaisesRegex(ValueError, "by is 'weight', 'first' or 'recent'", edges.top, 3, "kind")
 
     def test_diffs_at_random(self):
         made = random.Random(6)

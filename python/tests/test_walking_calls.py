@@ -267,7 +267,8 @@ class Calls(Case):
         right, edges, wrong, at = call(), list(session.edges()), [], 1
         while len(wrong) < 3:
             try:
-                session.held._degrees = None  # (it would have the answers already)
+                if ENGINE == "library":  # (it would have the answers already)
+                    session.held.kept.degrees = None
                 if ENGINE == "program":
                     session.held._all = None
                 if not at_line(at, call):

@@ -67,6 +67,22 @@ class Row:
         self.places: Any = [word for it in (kinds, *others) for word in (c_void_p(address(it)), c_size_t(size))]
 
 
+class Kept:
+    """What a version keeps from call to call until it is closed: the handles and rows that nobody uses now, and what was asked of
+    all. A call takes it once: where the version is closed meanwhile, it ends with what it took, which goes with it."""
+
+    __slots__ = ("idle", "rows", "names", "all", "begins", "by_target", "degrees")
+
+    def __init__(self) -> None:
+        self.idle: List[Owned] = []
+        self.rows: List[Row] = []
+        self.names: Optional[List[str]] = None
+        self.all: Optional[Arrays] = None
+        self.begins: "Optional[array[int]]" = None
+        self.by_target: "Optional[Tuple[Sequence[int], array[int]]]" = None
+        self.degrees: "Optional[Tuple[array[int], array[int], array[int]]]" = None
+
+
 class LibraryVersion:
     """A version that is held. Each thread that asks takes a handle of its own: a copy of the first one, which is never asked."""
 
@@ -78,15 +94,9 @@ class LibraryVersion:
         hold = interface.Hold(NO_HOLD, NO_HOLD)
         self._hold = self._holds.know(self, hold)
         self.step = Step(self._library.desk_hold, self.desk.raw, self._first.raw, hold)
-        self._idle: List[Owned] = []
-        self._rows: List[Row] = []
+        self.kept = Kept()
         self._is_open = False
         self.number = self.count = 0
-        self._names: Optional[List[str]] = None
-        self._all: Optional[Arrays] = None
-        self._begins: "Optional[array[int]]" = None
-        self._by_target: "Optional[Tuple[Sequence[int], array[int]]]" = None
-        self._degrees: "Optional[Tuple[array[int], array[int], array[int]]]" = None
         # What a server keeps of answers, as it told them.
         self.told: Dict[str, bytes] = {}
 
@@ -109,26 +119,27 @@ class LibraryVersion:
         """Lets the hold go, and the handles that nobody asks by now; the others go with those who do so."""
         self._is_open = False
         self._holds.let_go(self._hold)
-        self._idle.clear()
-        self._rows.clear()
         self._first = Owned(interface.Version(), self._versions)
-        self._all = self._begins = self._by_target = self._degrees = self._names = None
-        self.told = {}
+        self.kept, self.told = Kept(), {}  # (last: who finds no handle there finds no first one either)
 
     # How it is asked.
 
     def _ask(self, call: Any, *given: Any) -> int:
         """Asks by a handle that nobody else has."""
-        self._engine.guard.check()
-        if not self.is_open:
-            raise SessionClosed(f"the session of version {self.number} is closed")
+        self._must_be_open()
+        idle = self.kept.idle
         try:
-            handle = self._idle.pop()
+            handle = idle.pop()
         except IndexError:
             handle = self._clone()
         code: int = call(handle.raw, *given)
-        self._idle.append(handle)
+        idle.append(handle)
         return code
+
+    def _must_be_open(self) -> None:
+        self._engine.guard.check()
+        if not self.is_open:
+            raise SessionClosed(f"the session of version {self.number} is closed")
 
     def _clone(self) -> Owned:
         handle = Owned(interface.Version(), self._versions)
@@ -167,15 +178,18 @@ class LibraryVersion:
         return self._number(self._library.version_kind, name, self._known.of_kinds, self._kind_count)
 
     def names(self) -> List[str]:
-        if self._names is None:
-            self._names = self._told(self._known.names, self._library.version_names, self.count, self._bytes)
-        return self._names
+        kept = self.kept
+        found = kept.names
+        if found is None:
+            found = kept.names = self._told(self._known.names, self._library.version_names, self.count, self._bytes)
+        return found
 
     def kinds(self) -> List[str]:
         return self._told(self._known.kinds, self._library.version_kind_names, self._kind_count, self._kind_bytes)
 
     def _told(self, known: List[str], call: Any, count: int, size: int) -> List[str]:
         """The first names, so many; those that aren't known yet are asked for."""
+        self._must_be_open()
         with self._known.lock:
             first = len(known)
             if first < count:
@@ -193,12 +207,14 @@ class LibraryVersion:
         return columns if self.count else [array(it) for it in codes]
 
     def degrees(self, scope: Scope) -> "Tuple[array[int], array[int], array[int]]":
-        if scope == WHOLE and self._degrees is not None:
+        kept = self.kept
+        found = kept.degrees
+        if scope == WHOLE and found is not None:
             self._engine.guard.check()
-            return self._degrees
+            return found
         out, into, weights = self._table(self._library.version_degrees, "IIq", self._view(scope))
         if scope == WHOLE:
-            self._degrees = out, into, weights
+            kept.degrees = out, into, weights
         return out, into, weights
 
     def labels(self, scope: Scope) -> "array[int]":
@@ -232,14 +248,14 @@ class LibraryVersion:
             return fault
 
     def edges(self, scope: Scope) -> Arrays:
-        view = self._view(scope)
+        view, kept = self._view(scope), self.kept
         self._engine.guard.check()
-        if self._all is not None:
-            places = self._all.places(None if scope.kind is None else view.kind, scope)
-            return self._all if scope == WHOLE else self._all.at(places)
+        all_ = kept.all
+        if all_ is not None:
+            return all_ if scope == WHOLE else all_.at(all_.places(None if scope.kind is None else view.kind, scope))
         found = self._read(view)
         if scope == WHOLE:
-            self._all, self._begins = found, found.by_source(self.count)
+            kept.all, kept.begins = found, found.by_source(self.count)
         return found
 
     def _read(self, view: interface.View) -> Arrays:
@@ -254,13 +270,14 @@ class LibraryVersion:
         return found
 
     def out_of(self, scope: Scope, name: str) -> Arrays:
-        all_ = self._all
+        kept = self.kept
+        all_ = kept.all
         if all_ is None:
             found = self.few_out_of(scope, name, None)
             assert found is not None  # (there is no bound)
             return self._apart(found)
         view, source = self._view(scope), self._vertex(name)
-        begins = self._begins
+        begins = kept.begins
         if begins is None:  # (edges stand source by source)
             begin = bisect_left(all_.sources, source)
             end = bisect_left(all_.sources, source + 1, begin)
@@ -275,22 +292,24 @@ class LibraryVersion:
     def few_out_of(self, scope: Scope, name: str, most: Optional[int]) -> Optional[Arrays]:
         """The edges that go out of a vertex as its row has them, where they are so many at most, else `None`: what takes longer
         the caller may have done by another thread."""
-        view, source = self._view(scope), self._vertex(name)
-        row = self._row(view, source, most)
+        view, source, rows = self._view(scope), self._vertex(name), self.kept.rows
+        row = self._row(rows, view, source, most)
         if row is None:
             return None
         count = row.count.value
         kinds, _, targets, weights, firsts, recents = row.columns
         found = Arrays(kinds[:count], array("I", (source,)) * count, targets[:count], weights[:count], firsts[:count],
                        recents[:count])
-        self._rows.append(row)
+        rows.append(row)
         return found
 
     def into(self, scope: Scope, name: str) -> Arrays:
+        kept = self.kept
         view, target, all_ = self._view(scope), self._vertex(name), self.edges(WHOLE)
-        if self._by_target is None:
-            self._by_target = all_.by_target(self.count)
-        order, ends = self._by_target
+        found = kept.by_target
+        if found is None:
+            found = kept.by_target = all_.by_target(self.count)
+        order, ends = found
         places = order[ends[target]:ends[target + 1]]
         count = len(places)
         if scope is not WHOLE or self._kind_count > 1 or count < 2:
@@ -305,16 +324,17 @@ class LibraryVersion:
         """The places, of some, whose edges count."""
         return places if scope is WHOLE else all_.places(None if scope.kind is None else view.kind, scope, places)
 
-    def _row(self, view: interface.View, source: int, most: Optional[int]) -> Optional[Row]:
-        """The edges that go out of a vertex, which are asked for, as they stand; `None` where they are more than so many."""
+    def _row(self, rows: List[Row], view: interface.View, source: int, most: Optional[int]) -> Optional[Row]:
+        """The edges that go out of a vertex, which are asked for, as they stand, in one of the rows; `None` where they are more
+        than so many."""
         try:
-            row = self._rows.pop()
+            row = rows.pop()
         except IndexError:
             row = Row(A_ROW)
         code: int = self._ask(self._library.version_row, view, source, *row.places, row.count)
         if code == Code.BAD_LENGTH:
             if most is not None and row.count.value > most:
-                self._rows.append(row)
+                rows.append(row)
                 return None
             row = Row(row.count.value)
             code = self._ask(self._library.version_row, view, source, *row.places, row.count)

@@ -16,7 +16,7 @@ from ..engine.operations import Operations
 from ..errors import NoAnswer, Place, PoolEmpty, Refused, Uncommitted, refusal
 from ..ledger import sum_of
 from ..values import records
-from ..values.answers import Commit
+from ..values.answers import Commit, shown_as_html
 
 if TYPE_CHECKING:
     from ..store import Store
@@ -55,6 +55,12 @@ class Loaded(NamedTuple):
 
     def __repr__(self) -> str:
         return f"<Loaded {self}>"
+
+    def _repr_html_(self) -> str:
+        """What a notebook shows."""
+        done = {} if self.commit is None else self.commit._asdict()
+        return shown_as_html("Loaded", {"feed": self.survey.feed, "rows": self.survey.rows, "bad rows": self.survey.bad,
+                                        "seconds": f"{self.seconds:.1f}", **done})
 
 
 @reads

@@ -49,13 +49,22 @@ class ServedVersion:
 
     def _ask(self, call: str, **given: Any) -> bytes:
         self._engine.guard.check()
-        if not self.is_open:
-            raise SessionClosed(f"the session of version {self.number} is closed")
+        self._must_be_open()
         try:
             return self._engine.talk.call("POST", f"{self.path}/ask", {"call": call, **given}).body
-        except SessionClosed as fault:
+        except StoreError as fault:
+            self._must_be_open()  # (it may have been closed meanwhile, and its server too)
+            if not isinstance(fault, SessionClosed):
+                raise
             self.end()
             raise SessionClosed(f"the server let version {self.number} go: {fault}. Open another session") from None
+        finally:
+            if self._engine.is_closed:  # (so nobody else closes the connection that was in use)
+                self._engine.talk.close()
+
+    def _must_be_open(self) -> None:
+        if not self.is_open:
+            raise SessionClosed(f"the session of version {self.number} is closed")
 
     def _columns(self, call: str, scope: Scope, **given: Any) -> "List[array[int]]":
         return wire.unpacked(self._ask(call, kind=scope.kind, since=scope.since, until=scope.until, **given))

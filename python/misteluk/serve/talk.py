@@ -6,6 +6,7 @@ import json
 import os
 import socket
 from collections import deque
+from contextlib import suppress
 from http.client import HTTPConnection, HTTPException, HTTPSConnection
 from typing import Any, Deque, Dict, Mapping, NamedTuple, Optional, Tuple
 from urllib.parse import SplitResult, quote, urlsplit
@@ -162,8 +163,9 @@ class Talk:
         return found
 
     def close(self) -> None:
-        while self._idle:
-            self._idle.pop().close()
+        with suppress(IndexError):  # (another thread may take the last one)
+            while True:
+                self._idle.pop().close()
 
 
 def _host_of(parts: SplitResult) -> str:

@@ -5,10 +5,11 @@ import heapq
 from array import array
 from collections import Counter
 from html import escape
-from itertools import islice
-from typing import (TYPE_CHECKING, Any, Callable, Dict, Generic, ItemsView, Iterator, KeysView, List, Mapping, NamedTuple,
-                    Optional, Sequence, Tuple, TypeVar, ValuesView)
+from types import MappingProxyType
+from typing import (TYPE_CHECKING, Any, Callable, Dict, Generic, ItemsView, Iterable, Iterator, KeysView, List, Mapping,
+                    NamedTuple, Optional, Sequence, Tuple, TypeVar, ValuesView)
 
+from .arrays import ReadOnlyArray, cut
 from ..errors import needed
 
 if TYPE_CHECKING:
@@ -55,6 +56,10 @@ class Stat(NamedTuple):
     free: int
     retired: int
     used: int
+
+    def _repr_html_(self) -> str:
+        """What a notebook shows."""
+        return shown_as_html("Stat", self._asdict())
 
 
 class Rebased(NamedTuple):
@@ -134,43 +139,65 @@ class Values(NamedTuple):
     values: Sequence[int]
     told: Optional[Callable[[Sequence[int]], Sequence[Any]]] = None
 
-    def all_told(self) -> Sequence[Any]:
-        return self.values if self.told is None else self.told(self.values)
+    def all_told(self, at: slice = slice(None)) -> Sequence[Any]:
+        """The values in these places, as a user is told them."""
+        values = self.values if at == slice(None) else self.values[at]
+        return values if self.told is None else self.told(values)
+
+    def read_only(self) -> "Values":
+        """The same, which nobody can change."""
+        values = self.values
+        return self._replace(values=ReadOnlyArray(values) if isinstance(values, array) else
+                             values if isinstance(values, ReadOnlyArray) else tuple(values))
 
 
 class Answer(Mapping[str, V], Generic[V]):
     """A table by name, as a version has it: a mapping from each name to its value, in the version's order.
 
     It has its columns as arrays, and makes a dict of them when somebody asks by name or goes through it. `names` are the rows'
-    names, and `numpy()`, `frame()` and `top(n)` go by columns. It equals a dict of the same rows. `version` is the number of the
-    version that was asked, `request` what was asked, and `value` what its values are called.
+    names, and `numpy()`, `frame()` and `top(n)` go by columns. It equals a dict of the same rows, and can't be changed: `dict()`,
+    `numpy()` and `frame()` are copies. `version` is the number of the version that was asked, `request` what was asked, and
+    `value` what its values are called.
     """
 
     def __init__(self, *given: Any, version: int = 0, request: str = "", value: str = "value", **named: Any) -> None:
         self.version, self.request, self.value = version, request, value
-        self.names: Sequence[str] = ()
-        self.columns: Dict[str, Values] = {}
         self._rows: "Optional[Dict[str, V]]" = dict(*given, **named)
-        if self._rows:
-            self.names = list(self._rows)
+        self.names: Tuple[str, ...] = tuple(self._rows)
+        self.columns: Mapping[str, Values] = MappingProxyType({})
 
     @classmethod
-    def of(cls, names: Sequence[str], columns: Dict[str, Values], version: int, request: str, value: str) -> Any:
+    def of(cls, names: Iterable[str], columns: Mapping[str, Values], version: int, request: str, value: str) -> Any:
         """The answer that has these columns; of degrees there are several."""
         answer = cls(version=version, request=request, value=value)
-        answer.names, answer.columns, answer._rows = names, columns, None
+        answer.names, answer._rows = tuple(names), None
+        answer.columns = MappingProxyType({name: it.read_only() for name, it in columns.items()})
         return answer
 
     def dict(self) -> "Dict[str, V]":
-        """The rows as a dict, the same one each time."""
+        """The rows as a dict of your own."""
+        return self._made().copy()
+
+    def _made(self) -> "Dict[str, V]":
+        """The rows as a dict, which is made once."""
         if self._rows is None:
-            values: Any = [it.all_told() for it in self.columns.values()]
-            made: Any = map(Degree, *values) if len(values) > 1 else values[0]
-            self._rows = dict(zip(self.names, made))
+            self._rows = dict(zip(self.names, self._values()))
         return self._rows
 
+    def _values(self, at: slice = slice(None)) -> Iterator[Any]:
+        """The values of rows in these places, which has columns."""
+        columns = [it.all_told(at) for it in self.columns.values()]
+        return map(Degree, *columns) if len(columns) > 1 else iter(columns[0])
+
+    def _rows_from(self, first: int, end: int) -> "List[Tuple[str, V]]":
+        """The rows from one place to another; no dict is made for them."""
+        at = slice(first, end)
+        if not self.columns:
+            return list(self._made().items())[at]
+        return list(zip(self.names[at], self._values(at)))
+
     def __getitem__(self, name: str) -> V:
-        return self.dict()[name]
+        return self._made()[name]
 
     def __iter__(self) -> Iterator[str]:
         return iter(self.names)
@@ -179,38 +206,40 @@ class Answer(Mapping[str, V], Generic[V]):
         return len(self.names)
 
     def __contains__(self, name: object) -> bool:
-        return name in self.dict()
+        return name in self._made()
 
     def keys(self) -> KeysView[str]:
         """The names, in the order of the rows."""
-        return self.dict().keys()
+        return self._made().keys()
 
     def values(self) -> ValuesView[V]:
         """The values, in the order of the rows."""
-        return self.dict().values()
+        return self._made().values()
 
     def items(self) -> ItemsView[str, V]:
         """Each name with its value, in the order of the rows."""
-        return self.dict().items()
+        return self._made().items()
 
     def __eq__(self, other: object) -> bool:
-        return self.dict() == (other.dict() if isinstance(other, Answer) else other)
+        return self._made() == (other._made() if isinstance(other, Answer) else other)
 
     __hash__ = None  # type: ignore[assignment]  # (as a dict's)
 
     def __repr__(self) -> str:
-        return repr(self.dict())
+        """As a dict; of many rows the first and the last ones, and how many there are."""
+        shown, count = cut(len(self), lambda *at: [f"{name!r}: {it!r}" for name, it in self._rows_from(*at)], "names")
+        return f"{{{shown}}}{count}"
 
     def __reduce__(self) -> Any:
         """What pickles it: its columns, with the values as a user is told them."""
         told = {name: Values(it.all_told()) for name, it in self.columns.items()}
-        if self._rows is not None and not told:
+        if not told:
             return _with_rows, (type(self), self._rows, self.version, self.request, self.value)
         return type(self).of, (self.names, told, self.version, self.request, self.value)
 
     def numpy(self) -> "Dict[str, numpy.ndarray[Any, Any]]":
-        """The columns as numpy arrays, each value in the place of its name in `names`: whole numbers, weights in the parts that
-        the store counts; labels are names."""
+        """The columns as numpy arrays of your own, each value in the place of its name in `names`: whole numbers, weights in the
+        parts that the store counts; labels are names."""
         numpy = needed("numpy", "an array")
         if not self.columns:
             return {self.value: numpy.array(list(self.values()))}
@@ -234,12 +263,9 @@ class Answer(Mapping[str, V], Generic[V]):
 
     def _repr_html_(self) -> str:
         """What a notebook shows: the first rows, and how many there are."""
-        rows = [["name", *self._fields()]]
-        for name, value in islice(self.items(), ROWS_SHOWN):
-            rows.append([name, *map(str, value if isinstance(value, tuple) else [value])])
-        cells = ("".join(f"<td>{escape(it)}</td>" for it in row) for row in rows)
+        rows = [[name, *(it if isinstance(it, tuple) else [it])] for name, it in self._rows_from(0, ROWS_SHOWN)]
         told = f"{len(self)} {'name' if len(self) == 1 else 'names'} of version {self.version}: {self.request}"
-        return f"<table>{''.join(f'<tr>{it}</tr>' for it in cells)}</table><p>{escape(told)}</p>"
+        return rows_as_html(["name", *self._fields()], rows, told)
 
     def top(self, count: int = 10, by: Optional[str] = None) -> "List[Tuple[str, V]]":
         """The rows with the greatest values, greatest first; equal ones in the order of the table. `by` says by which column of
@@ -249,10 +275,7 @@ class Answer(Mapping[str, V], Generic[V]):
         field = BY_COLUMN.get(by or "out", by) if len(fields) > 1 or by else fields[0]
         if self.names and field not in fields:
             raise ValueError(f"by is 'out', 'into' or 'weight' for degrees, and not {by!r}")
-        values: Any = list(self.values()) if not self.columns else None
-        if values is None:
-            columns = [it.all_told() for it in self.columns.values()]
-            values = list(map(Degree, *columns)) if len(columns) > 1 else columns[0]
+        values: Any = list(self._values() if self.columns else self.values())
         order = [getattr(it, field or "") for it in values] if len(fields) > 1 else values
         places = heapq.nlargest(count, range(len(order)), key=order.__getitem__)
         return [(self.names[at], values[at]) for at in places]
@@ -274,6 +297,12 @@ class Components(Answer[str]):
         return Counter(self.values()).most_common(count)
 
     most = top
+
+
+def rows_as_html(head: Sequence[str], rows: Iterable[Sequence[object]], told: str) -> str:
+    """What a notebook shows of rows: a table with this head, and what is told of them."""
+    cells = ("".join(f"<td>{escape(str(it))}</td>" for it in row) for row in [head, *rows])
+    return f"<table>{''.join(f'<tr>{it}</tr>' for it in cells)}</table><p>{escape(told)}</p>"
 
 
 def shown_as_html(title: str, told: Mapping[str, object]) -> str:

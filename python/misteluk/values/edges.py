@@ -5,9 +5,11 @@ import csv
 import heapq
 from array import array
 from datetime import datetime
+from functools import cached_property
 from typing import TYPE_CHECKING, Any, Dict, Iterator, List, NamedTuple, Sequence, Tuple
 
-from .answers import Edge
+from .answers import ROWS_SHOWN, Edge, rows_as_html
+from .arrays import ReadOnlyArray, cut
 from .units import Units
 from ..engine.finding import Path
 from ..errors import needed
@@ -21,8 +23,14 @@ if TYPE_CHECKING:
     import scipy.sparse
 
 HEADER = ("kind", "source", "target", *Edge._fields)
+DIFF_HEADER = ["state", *HEADER[:3], *(f"{it}_{when}" for when in ("before", "after") for it in Edge._fields)]
 # An edge as a user is told it.
 Told = Tuple[str, str, str, Any]
+
+
+def _column(at: int) -> "cached_property[ReadOnlyArray]":
+    """A column of edges by its place, made when it is asked for: most edges of a vertex are gone through without."""
+    return cached_property(lambda edges: ReadOnlyArray(edges._columns[at]))
 
 
 class Edges(Sequence[Told]):
@@ -31,30 +39,35 @@ class Edges(Sequence[Told]):
     `kind`, `source` and `target` are arrays of numbers, whose names `kinds` and `names` have: the layout of Arrow's dictionaries.
     `weight`, `first` and `recent` are whole numbers: parts, of which one has `units.weight_scale`, and microseconds since 1970
     where times are dates. The numbers of names are those of the version, and stay the same from version to version of a store
-    that doesn't begin anew.
+    that doesn't begin anew. Nobody can change an array, which may be the session's own: a frame is yours, and so is a copy.
     """
 
+    kind, source, target, weight, first, recent = map(_column, range(6))
+
     def __init__(self, kinds: Sequence[str], names: Sequence[str], units: Units, columns: "Sequence[array[int]]") -> None:
-        self.kinds, self.names, self.units = kinds, names, units
-        self.kind, self.source, self.target, self.weight, self.first, self.recent = columns
+        self.kinds, self.names, self.units, self._columns = kinds, names, units, columns
+
+    def __reduce__(self) -> Any:
+        return Edges, (self.kinds, self.names, self.units, [it[:] for it in self._columns])
 
     @property
-    def columns(self) -> "Dict[str, array[int]]":
+    def columns(self) -> Dict[str, ReadOnlyArray]:
         """The arrays by name."""
         return {it: getattr(self, it) for it in HEADER}
 
     def __len__(self) -> int:
-        return len(self.kind)
+        return len(self._columns[0])
 
     def __getitem__(self, at: Any) -> Any:
         if isinstance(at, slice):
-            return Edges(self.kinds, self.names, self.units, [it[at] for it in self.columns.values()])
-        ends = self.kinds[self.kind[at]], self.names[self.source[at]], self.names[self.target[at]]
-        return (*ends, self.units.edge_to_user(self.weight[at], self.first[at], self.recent[at]))
+            return Edges(self.kinds, self.names, self.units, [it[at] for it in self._columns])
+        kind, source, target, *marks = [it[at] for it in self._columns]
+        return self.kinds[kind], self.names[source], self.names[target], self.units.edge_to_user(*marks)
 
     def __iter__(self) -> Iterator[Told]:
         kinds, names = self.kinds.__getitem__, self.names.__getitem__
-        return zip(map(kinds, self.kind), map(names, self.source), map(names, self.target), self.edges())
+        kind, source, target, *_ = self._columns
+        return zip(map(kinds, kind), map(names, source), map(names, target), self.edges())
 
     def edges(self) -> Iterator[Edge[Any, Any]]:
         """The edges alone, in the store's units."""
@@ -66,13 +79,14 @@ class Edges(Sequence[Told]):
                 self.units.all_times_to_user(self.recent)]
 
     def numpy(self) -> "Dict[str, numpy.ndarray[Any, Any]]":
-        """The columns as numpy arrays, which share their memory with these."""
+        """The columns as numpy arrays, which share their memory with these, and so are read-only: to change one take its
+        `.copy()`."""
         numpy = needed("numpy", "an array")
         return {name: numpy.asarray(it) for name, it in self.columns.items()}
 
     def frame(self) -> "pandas.DataFrame":
-        """The edges as a pandas frame: kind, source, target, weight, first, recent. Decimal weights are objects, which pandas
-        can't sum as numbers, unless the store has `decimals="float"`."""
+        """The edges as a pandas frame of your own: kind, source, target, weight, first, recent. Decimal weights are objects,
+        which pandas can't sum as numbers, unless the store has `decimals="float"`."""
         numpy, pandas = needed("numpy", "a frame"), needed("pandas", "a frame")
         found: Dict[str, Any] = {}
         for name, numbers, texts in (("kind", self.kind, self.kinds), ("source", self.source, self.names),
@@ -137,11 +151,23 @@ class Edges(Sequence[Told]):
         """The edges with the greatest values, greatest first: by "weight", "first" or "recent"."""
         if by not in Edge._fields:
             raise ValueError(f"by is 'weight', 'first' or 'recent' for edges, and not {by!r}")
-        places = heapq.nlargest(count, range(len(self)), key=getattr(self, by).__getitem__)
+        places = heapq.nlargest(count, range(len(self)), key=self._columns[HEADER.index(by)].__getitem__)
         return [self[at] for at in places]
 
+    @property
+    def _size(self) -> str:
+        counted = (f"{count:,} {what}{'s' * (count != 1)}" for count, what in (
+            (len(self), "edge"), (len(self.kinds), "kind"), (len(self.names), "name")))
+        return "{} of {} and {}".format(*counted)
+
+    def _repr_html_(self) -> str:
+        """What a notebook shows: the first rows, and how many there are."""
+        return rows_as_html(HEADER, [(*ends, *edge) for *ends, edge in self[:ROWS_SHOWN]], self._size)
+
     def __repr__(self) -> str:
-        return f"<{len(self)} edges of {len(self.kinds)} kinds and {len(self.names)} names>"
+        """How many there are, and the edges; of many the first and the last ones."""
+        shown = cut(len(self), lambda first, end: list(map(repr, self[first:end])), "edges")[0]
+        return f"<{self._size}: {shown}>" if shown else f"<{self._size}>"
 
 
 class Changed(NamedTuple):
@@ -167,9 +193,8 @@ class Diff:
         keys = zip(map(of_kinds.__getitem__, later.kind), map(of_names.__getitem__, later.source),
                    map(of_names.__getitem__, later.target))
         pairs = [(left.pop(key, -1), at) for at, key in enumerate(keys)]
-        changed = [(old, at) for old, at in pairs if old >= 0 and
-                   (earlier.weight[old], earlier.first[old], earlier.recent[old])
-                   != (later.weight[at], later.first[at], later.recent[at])]
+        before, after = (list(zip(it.weight, it.first, it.recent)) for it in (earlier, later))
+        changed = [(old, at) for old, at in pairs if old >= 0 and before[old] != after[at]]
         self.gone = _some(earlier, sorted(left.values()))
         self.new = _some(later, [at for old, at in pairs if old < 0])
         self.before, self.after = _some(earlier, [old for old, _ in changed]), _some(later, [at for _, at in changed])
@@ -188,23 +213,33 @@ class Diff:
         """All of them as a pandas frame: what became of an edge (gone, new or changed), its kind, source and target, and its
         weight and times before and after, empty where it wasn't there."""
         pandas = needed("pandas", "a frame")
-        nothing = (None,) * 3
-        rows: List[Any] = [("gone", *ends, *edge, *nothing) for *ends, edge in self.gone]
-        rows += [("new", *ends, *nothing, *edge) for *ends, edge in self.new]
-        rows += [("changed", it.kind, it.source, it.target, *it.before, *it.after) for it in self.changed]
-        columns = ["state", *HEADER[:3], *(f"{it}_{when}" for when in ("before", "after") for it in Edge._fields)]
-        return pandas.DataFrame(rows, columns=columns)
+        return pandas.DataFrame(self._rows(slice(None), None), columns=DIFF_HEADER)
+
+    def _rows(self, some: slice, nothing: Any) -> List[Any]:
+        """Rows of a frame, of each state those in these places."""
+        rows: List[Any] = [("gone", *ends, *edge, *(nothing,) * 3) for *ends, edge in self.gone[some]]
+        rows += [("new", *ends, *(nothing,) * 3, *edge) for *ends, edge in self.new[some]]
+        return rows + [("changed", *ends, *edge, *after) for (*ends, edge), after in zip(
+            self.before[some], self.after[some].edges())]
 
     def __bool__(self) -> bool:
         """Whether there is any difference."""
         return any(self.counts().values())
 
+    @property
+    def _size(self) -> str:
+        return ", ".join(f"{count:,} {state}" for state, count in self.counts().items())
+
+    def _repr_html_(self) -> str:
+        """What a notebook shows: the first rows of each, and how many there are."""
+        return rows_as_html(DIFF_HEADER, self._rows(slice(ROWS_SHOWN), ""), self._size)
+
     def __repr__(self) -> str:
-        return f"<Diff: {', '.join(f'{count} {state}' for state, count in self.counts().items())}>"
+        return f"<Diff: {self._size}>"
 
 
 def _some(edges: Edges, places: Sequence[int]) -> Edges:
-    columns = [array(it.typecode, map(it.__getitem__, places)) for it in edges.columns.values()]
+    columns = [array(it.typecode, map(it.__getitem__, places)) for it in edges._columns]
     return Edges(edges.kinds, edges.names, edges.units, columns)
 
 

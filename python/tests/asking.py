@@ -1,0 +1,68 @@
+"""Each public call of a session that answers, what it answers as plain values, and rows for it."""
+from __future__ import annotations
+
+import asyncio
+from collections.abc import Iterator
+from typing import Any, Callable, Dict, List, Tuple
+
+from support import optional
+
+import misteluk
+from misteluk import Answer, Diff, Edges, Session
+
+ROWS = ("insert k a b 5 1", "insert k b c 7 2", "insert l a c 3 3", "insert l c d 4 4", "insert k d a 9 5", "add k a b 1 6")
+LATER = ("remove l a c", "add k b c 2 7", "insert m d b 6 8")
+# What of a session asks for no answer.
+NO_ANSWERS = {"close", "is_open", "must_be_open", "save", "store", "held", "slot", "version", "names"}
+NEEDED = {"edges_frame": "pandas", "to_networkx": "networkx", "to_igraph": "igraph", "to_scipy": "scipy"}
+Call = Tuple[str, Callable[..., Any], Tuple[Any, ...]]
+
+
+def calls(path: str) -> List[Call]:
+    """The calls by name, with what each is given besides the session. A file that one writes has this path."""
+    given: Dict[str, Tuple[Any, ...]] = {
+        "edge": ("k", "a", "b"), "levels": ("a",), "path": ("a", "d"), "within": ("a", 2), "to_csv": (path,),
+        **dict.fromkeys(("edges_out_of", "edges_into", "out_of", "into", "neighbors"), ("a",))}
+    of_session = sorted({it for it in vars(Session) if not it.startswith("_")} - NO_ANSWERS - {"diff"})
+    found: List[Call] = [(it, getattr(Session, it), given.get(it, ())) for it in of_session if optional(NEEDED.get(it, "misteluk"))]
+    found += [(f"{it} of a kind", getattr(Session, it), (*given.get(it, ()), "k", 1, 6)) for it in (
+        "levels", "components", "cores", "degrees", "weights_in", "edges_columns", "edges_out_of", "edges_into")]
+    return found + [
+        ("some edges", Session.edges, ([("k", "a", "b"), ("k", "b", "c")],)), ("len", len, ()),
+        ("in", Session.__contains__, (("k", "a", "b"),)), ("a name in", Session.__contains__, ("a",)),
+        ("either way", lambda session: session.within("a", 2, directed=False), ()),
+        ("diff", lambda session: session.diff(session), ()), ("view", misteluk.view, ("a",))]
+
+
+def awaited(session: "misteluk.AwaitedSession[Any, Any]", loop: asyncio.AbstractEventLoop) -> Callable[..., Any]:
+    """Makes a call of an awaited session."""
+    def ask(call: Callable[..., Any], *given: Any) -> Any:
+        name = getattr(call, "__name__", "")
+        own = getattr(session, name)(*given) if getattr(Session, name, None) is call and name[0] != "_" else (
+            session.ask(call, session, *given))
+        return loop.run_until_complete(own)
+    return ask
+
+
+def plain(found: Any) -> Any:
+    """An answer as plain values, which share nothing with it."""
+    if isinstance(found, Diff):
+        return [plain(it) for it in (found.gone, found.new, found.before, found.after)]
+    if isinstance(found, Answer):
+        return [found.request, [(name, plain(it)) for name, it in found.items()], list(found.names)]
+    if isinstance(found, Edges):
+        return [list(found), list(found.kinds), list(found.names), [list(it) for it in found.columns.values()]]
+    if isinstance(found, dict):
+        return [(name, plain(it)) for name, it in found.items()]
+    kind = type(found).__name__
+    if kind == "View":
+        return found.html
+    if kind == "DataFrame":
+        return found.values.tolist()
+    if kind == "MultiDiGraph":
+        return [list(found), sorted(map(str, found.edges(data=True)))]
+    if kind == "Graph":
+        return [found.vs["name"], found.get_edgelist(), *(found.es[it] for it in ("kind", *misteluk.Edge._fields))]
+    if kind == "csr_matrix":
+        return found.toarray().tolist()
+    return [plain(it) for it in found] if isinstance(found, (list, Iterator)) else found
