@@ -21,8 +21,8 @@ ONCE = ("dates", "fields", "lint", "package", "records", "release", "tables", "t
         "serve_alive", "serve_apart", "serve_clients", "serve_direct", "serve_docs", "serve_door", "serve_end", "serve_faults",
         "serve_fuzz", "serve_kept", "serve_killed", "serve_page", "serve_pending", "serve_posts", "serve_talk", "serve_versions")
 # Files of tests that also run over stores that a server has, and what a server needs.
-SERVED = ("arrays", "closing", "names", "objects", "read_only", "store", "units", "view", "view_browsers", "view_dense", "walking",
-          "walking_calls")
+SERVED = ("arrays", "closing", "names", "objects", "read_only", "store", "units", "view", "view_browsers", "view_dense",
+          "walking", "walking_calls")
 OF_SERVER = ("starlette", "uvicorn")
 
 

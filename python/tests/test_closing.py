@@ -97,7 +97,7 @@ class Closing(ServeCase if ENGINE == "library" else Case):
         store = self.store(*ROWS, seats=3)
         for by_instruction in (False, True):
             found = self.wrong(lambda: (store, store.open()), lambda store, session: session.close(), by_instruction,
-                               step=(3 if by_instruction else 1) * (1 if ENGINE == "library" else 7))
+                               step=1 if ENGINE == "library" else 7)
             self.assertEqual(found, [])
         self.assertEqual(store.engine.open_count, 0)
 
@@ -138,7 +138,7 @@ class Closing(ServeCase if ENGINE == "library" else Case):
             close(store, session)
             for it in threads:
                 it.join()
-        return {kind: [name for it, name in told if it == kind] for kind, _ in told}
+        return {kind: [name for it, name in told if it == kind] for kind in {it for it, _ in told}}
 
     def only_closed(self, opened, close):
         told = self.closed_meanwhile(opened, close)
