@@ -24,7 +24,8 @@ def calls(path: str) -> List[Call]:
         "edge": ("k", "a", "b"), "levels": ("a",), "path": ("a", "d"), "within": ("a", 2), "to_csv": (path,),
         **dict.fromkeys(("edges_out_of", "edges_into", "out_of", "into", "neighbors"), ("a",))}
     of_session = sorted({it for it in vars(Session) if not it.startswith("_")} - NO_ANSWERS - {"diff"})
-    found: List[Call] = [(it, getattr(Session, it), given.get(it, ())) for it in of_session if optional(NEEDED.get(it, "misteluk"))]
+    found: List[Call] = [(it, getattr(Session, it), given.get(it, ())) for it in of_session
+                         if optional(NEEDED.get(it, "misteluk"))]
     found += [(f"{it} of a kind", getattr(Session, it), (*given.get(it, ()), "k", 1, 6)) for it in (
         "levels", "components", "cores", "degrees", "weights_in", "edges_columns", "edges_out_of", "edges_into")]
     return found + [

@@ -90,8 +90,8 @@ class ReadOnlyArray(Sequence[int]):
 
 
 def cut(count: int, rows: Callable[[int, int], List[str]], what: str) -> Tuple[str, str]:
-    """Rows as one text: all of them, or the first and the last ones where they are many, and then how many there are. `rows` gives
-    those from one place to another."""
+    """Rows as one text: all of them, or the first and the last ones where they are many, and then how many there are. `rows`
+    gives those from one place to another."""
     if count <= ROWS_WHOLE:
         return ", ".join(rows(0, count)), ""
     return ", ".join([*rows(0, ROWS_AT_ENDS), "..", *rows(count - ROWS_AT_ENDS, count)]), f" of {count:,} {what}"
