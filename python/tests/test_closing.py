@@ -60,7 +60,9 @@ def right(opened):
     return found
 
 
-class Closing(ServeCase if ENGINE == "library" else Case):
+class Meanwhile:
+    """What cases share that close what is asked."""
+
     def wrong(self, open_, close, by_instruction=False, step=1):
         """At which steps of which calls a close makes them say something else. A session is asked for the first time, and again;
         once it is closed it keeps nothing."""
@@ -92,32 +94,6 @@ class Closing(ServeCase if ENGINE == "library" else Case):
         except Exception as fault:
             return repr(fault)
 
-    @unittest.skipIf(ENGINE == "program", "of stores in process alone")
-    def test_a_session_is_closed_at_each_step(self):
-        store = self.store(*ROWS, seats=3)
-        for by_instruction in (False, True):
-            found = self.wrong(lambda: (store, store.open()), lambda store, session: session.close(), by_instruction,
-                               step=1 if ENGINE == "library" else 7)
-            self.assertEqual(found, [])
-        self.assertEqual(store.engine.open_count, 0)
-
-    @unittest.skipUnless(ENGINE == "library", "of the library alone")
-    def test_a_store_is_closed_at_each_step(self):
-        def opened():
-            store = self.store(*ROWS)
-            return store, store.open()
-        self.assertEqual(self.wrong(opened, lambda store, session: store.close(), step=3), [])
-
-    @unittest.skipUnless(ENGINE == "library", "of the library alone")
-    def test_a_connection_is_closed_at_each_step(self):
-        self.fed(*(["add", *it.split()[1:4], *map(int, it.split()[4:])] for it in ROWS))
-
-        def opened():
-            session = misteluk.connect(self.server.url)
-            return session.store, session
-        for close in (lambda store, session: session.close(), lambda store, session: store.close()):
-            self.assertEqual(self.wrong(opened, close, step=11), [])
-
     def ask_all(self, session, wanted, told):
         """Asks all until the session is closed, again and again, and notes what it was told."""
         said = True
@@ -146,6 +122,24 @@ class Closing(ServeCase if ENGINE == "library" else Case):
         self.assertGreater(len(told[True]), 10)
         self.assertGreater(len(told["closed"]), 10)
 
+
+class Closing(Meanwhile, Case):
+    @unittest.skipIf(ENGINE == "program", "of stores in process alone")
+    def test_a_session_is_closed_at_each_step(self):
+        store = self.store(*ROWS, seats=3)
+        for by_instruction in (False, True):
+            found = self.wrong(lambda: (store, store.open()), lambda store, session: session.close(), by_instruction,
+                               step=1 if ENGINE == "library" else 7)
+            self.assertEqual(found, [])
+        self.assertEqual(store.engine.open_count, 0)
+
+    @unittest.skipUnless(ENGINE == "library", "of the library alone")
+    def test_a_store_is_closed_at_each_step(self):
+        def opened():
+            store = self.store(*ROWS)
+            return store, store.open()
+        self.assertEqual(self.wrong(opened, lambda store, session: store.close(), step=3), [])
+
     @unittest.skipIf(ENGINE == "program", "of stores in process alone")
     def test_threads_ask_a_session_that_is_closed(self):
         store = self.store(*ROWS, seats=3)
@@ -158,20 +152,27 @@ class Closing(ServeCase if ENGINE == "library" else Case):
             return store, store.open()
         self.only_closed(opened, lambda store, session: store.close())
 
-    @unittest.skipUnless(ENGINE == "library", "of the library alone")
-    def test_threads_ask_a_connection_that_is_closed(self):
-        self.fed(*(["add", *it.split()[1:4], *map(int, it.split()[4:])] for it in ROWS))
-
-        def opened():
-            session = misteluk.connect(self.server.url)
-            return session.store, session
-        self.only_closed(opened, lambda store, session: session.close())
-
     def test_a_closed_session_is_shown(self):
         """A notebook shows that it is closed, also where that comes while it asks."""
         session = self.store(*ROWS).open()
         with mock.patch.object(type(session), "__len__", lambda it: it.close() or it.must_be_open()):
             self.assertIn("<td>closed</td>", session._repr_html_())
+
+class OfServers(Meanwhile, ServeCase):
+    def opened(self):
+        session = misteluk.connect(self.server.url)
+        return session.store, session
+
+    def setUp(self):
+        super().setUp()
+        self.fed(*(["add", *it.split()[1:4], *map(int, it.split()[4:])] for it in ROWS))
+
+    def test_a_connection_is_closed_at_each_step(self):
+        for close in (lambda store, session: session.close(), lambda store, session: store.close()):
+            self.assertEqual(self.wrong(self.opened, close, step=11), [])
+
+    def test_threads_ask_a_connection_that_is_closed(self):
+        self.only_closed(self.opened, lambda store, session: session.close())
 
 
 if __name__ == "__main__":

@@ -110,7 +110,9 @@ def asked_by(session):
     return lambda call, *given: call(session, *given)
 
 
-class ReadOnly(ServeCase if ENGINE == "library" else Case):
+class Asking:
+    """What cases share that ask all."""
+
     def all_told(self, ask, but=()):
         """All answers of a session as plain values."""
         return {name: plain(ask(call, *given)) for name, call, given in calls(str(self.room / "edges.csv")) if name not in but}
@@ -133,6 +135,8 @@ class ReadOnly(ServeCase if ENGINE == "library" else Case):
         self.assertGreater(writer.changed, 100)
         return found
 
+
+class ReadOnly(Asking, Case):
     def test_each_call_is_tried(self):
         """What a session is asked for is tried here, or is no answer."""
         names = {it for it in dir(self.store(*ROWS).open()) if not it.startswith("_")}
@@ -148,15 +152,6 @@ class ReadOnly(ServeCase if ENGINE == "library" else Case):
             store.add(*it.split()[1:4], it.split()[4], int(it.split()[5]))
         store.commit()
         self.assertEqual(self.wrong(store.open), [])
-
-    @unittest.skipUnless(ENGINE == "library", "of the library alone")
-    def test_answers_of_a_server_s_store(self):
-        self.fed(*(["add", *it.split()[1:4], *map(int, it.split()[4:])] for it in ROWS))
-        with misteluk.Served(self.server.url) as store:
-            self.assertEqual(self.wrong(store.open), [])
-            loop = asyncio.new_event_loop()
-            self.addCleanup(loop.close)
-            self.assertEqual(self.wrong(store.open, lambda it: awaited(misteluk.AwaitedSession(it), loop)), [])
 
     def test_what_is_saved_and_begun_anew(self):
         """All answers are written to, and then the version is saved, restored, copied to a store that begins anew."""
@@ -174,6 +169,16 @@ class ReadOnly(ServeCase if ENGINE == "library" else Case):
         if ENGINE != SERVED:
             store.rebase(session)
             self.assertEqual(self.all_told(asked_by(store.open()), but), wanted)
+
+
+class OfServers(Asking, ServeCase):
+    def test_answers_of_a_server_s_store(self):
+        self.fed(*(["add", *it.split()[1:4], *map(int, it.split()[4:])] for it in ROWS))
+        with misteluk.Served(self.server.url) as store:
+            self.assertEqual(self.wrong(store.open), [])
+            loop = asyncio.new_event_loop()
+            self.addCleanup(loop.close)
+            self.assertEqual(self.wrong(store.open, lambda it: awaited(misteluk.AwaitedSession(it), loop)), [])
 
 
 class Arrays(Case):
