@@ -69,8 +69,6 @@ class Session(Generic[W, T]):
     def _terms(self) -> Terms:
         return self.store.ledger.terms
 
-    # How the version is asked.
-
     def _asked(self, call: Callable[..., R], told: Called, *given: Any) -> R:
         """What a call gives. What it denies is told as of this call."""
         try:
