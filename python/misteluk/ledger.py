@@ -2,6 +2,7 @@
 
 An interrupt may come between any two steps here. So what a batch was and did is kept in single steps (`Books`), and its
 operations are taken from those that are pending by the step that notes so: the next call finds out what an interrupted one did.
+A caller notes as the last thing it does that it gives what a commit did (`guard.noting`).
 """
 from __future__ import annotations
 
@@ -33,8 +34,6 @@ class Books(NamedTuple):
     feed: Optional[Feed] = None
 
 
-NOTHING = Books()
-
 
 class Ledger:
     """The pending operations of a store, in the engine's terms, and what became of its batches."""
@@ -45,7 +44,8 @@ class Ledger:
         # The kinds that the store was told of, in order.
         self.kinds: Dict[str, None] = {}
         self.is_closed = False
-        # The receipts that were told, which the next commit lets go.
+        # The receipts of the last commit, which are to be told, and those that were told, which the next one lets go.
+        self.telling: "Tuple[Commit, ...]" = ()
         self.taken: "List[Tuple[Commit, ...]]" = []
         self._guard = Guard()
         self._books = Books()
@@ -143,13 +143,12 @@ class Ledger:
     # Batches.
 
     @alone
-    def commit(self, collect: bool, batch: int) -> "Tuple[Commit, Tuple[Commit, ...]]":
-        """Applies what is pending now, and gives the sum of what was applied and not told yet, and what it is of. A caller puts
-        that into `taken` as the last thing it does: then it was told."""
+    def commit(self, collect: bool, batch: int) -> Commit:
+        """Applies what is pending now, and gives the sum of what was applied and not told yet; where a batch is refused the error
+        has it. A caller puts `telling`, of which that is the sum, into `taken` as the last thing it does: then it was told."""
         if self.is_closed:
             raise StoreError("the store is closed")
-        if self.taken:
-            self._forget_taken()
+        self._forget_taken()
         try:
             if self._books.flight is not None:
                 self._land()
@@ -157,11 +156,11 @@ class Ledger:
             while left or not self._books.untold:
                 left -= self._fly_first(min(batch, left), collect)
         except Refused as fault:
-            if self._books.untold:
-                fault.applied = sum_of(self._books.untold)
-                self.taken.append(self._books.untold)
+            fault.applied = sum_of(self._books.untold) if self._books.untold else None
             raise
-        return sum_of(self._books.untold), self._books.untold
+        finally:
+            self.telling = self._books.untold
+        return sum_of(self.telling)
 
     def _fly_first(self, count: int, collect: bool) -> int:
         """Applies so many of the pending operations, or fewer where a server takes none so long; gives how many."""
@@ -176,24 +175,19 @@ class Ledger:
 
     def _forget_taken(self) -> None:
         """Lets go what was told. (Where that is broken off, it's found gone the next time.)"""
-        count, books = len(self.taken), self._books
-        untold: Tuple[Commit, ...] = ()
-        if self.taken[count - 1] is not books.untold:
+        count = len(self.taken)
+        if count:
             told = {id(it) for receipts in self.taken[:count] for it in receipts}
-            untold = tuple([it for it in books.untold if id(it) not in told])
-        self._books = Books(untold, *books[1:]) if untold or books.flight is not None else NOTHING
-        del self.taken[:count]
+            self._books = self._books._replace(untold=tuple([it for it in self._books.untold if id(it) not in told]))
+            del self.taken[:count]
 
     @alone
     def apply(self, batch: Operations, collect: bool, feed: Optional[Feed] = None) -> Commit:
-        """Applies a batch of its own, as one of a load, whose terms the store takes with it, or not at all. What commits did
-        before isn't told any more."""
+        """Applies a batch of its own, as one of a load, whose terms the store takes with it, or not at all."""
         if self.is_closed:
             raise StoreError("the store is closed")
         self._land()
-        receipt = self._fly(batch, collect, False, feed)
-        self._books = Books()
-        return receipt.commit
+        return self._fly(batch, collect, False, feed).commit
 
     def settle(self) -> None:
         """Takes what became of a batch whose call was broken off."""
@@ -205,10 +199,10 @@ class Ledger:
         self._land()
 
     @alone
-    def forget(self) -> None:
-        """Lets go what wasn't told, as where the store begins anew. A batch on its way is part of that."""
-        self._land()
-        self._books = Books()
+    def begin_anew(self) -> None:
+        """Takes in that the store's last version is 0 now: so is that of what wasn't told yet."""
+        self._forget_taken()
+        self._books = self._books._replace(untold=tuple([it._replace(version=0) for it in self._books.untold]))
 
     @alone
     def end(self) -> None:
@@ -268,7 +262,7 @@ class Ledger:
     def _refused(self, fault: Denied, batch: Operations, of_pending: bool) -> Refused:
         place = batch.place(0) if batch.place and batch.size else None
         if fault.stat is not None:
-            needed = batch.size + (fault.stat.used if batch.expires else 0)
+            needed = batch.asked(fault.stat.used)
             return PoolEmpty(needed=needed, free=fault.stat.free, record=fault.record, place=place,
                              advice=self._room_advice(batch.size, needed, fault.stat))
         left = f"the batch of {batch.size} operations is pending still" if of_pending else ""

@@ -3,19 +3,21 @@ from __future__ import annotations
 
 import sys
 import warnings
+from contextlib import suppress
 from datetime import datetime
 from decimal import Decimal
+from itertools import chain
 from types import TracebackType
-from typing import (TYPE_CHECKING, Any, Callable, Dict, Generic, List, Literal, Optional, Sequence, Type, TypeVar, Union,
-                    overload)
+from typing import (TYPE_CHECKING, Any, Callable, Dict, Generic, Iterator, List, Literal, Optional, Sequence, Tuple, Type,
+                    TypeVar, Union, overload)
 
 from .engine.finding import Path
-from .engine.guard import put
+from .engine.guard import noting
 from .engine.making import LIBRARY, choose, make_engine
 from .engine.operations import ADD, EXPIRE, INSERT, REMOVE
 from .engine.protocol import Denied, Engine
 from .feeds.opening import reads
-from .errors import NoSeat, PoolEmpty, StoreError, Uncommitted
+from .errors import NoSeat, PoolEmpty, Refused, StoreError, Uncommitted
 from .ledger import Ledger
 from .session import Session
 from .values import records
@@ -66,7 +68,7 @@ class Store(Generic[W, T]):
     `timeout`: for how many seconds the program may neither read nor write while it is waited for; then `NoAnswer` is raised, and
     the call may be made again.
 
-    One store may be used from several threads. An interrupt comes behind a call of the library, and ends the waiting for one of
+    One store may be used from several threads. An interrupt comes after a call of the library, and ends the waiting for one of
     the program: what was applied is known to the next call. A fork can't use the store.
     """
 
@@ -182,13 +184,20 @@ class Store(Generic[W, T]):
     def commit(self, *, collect: bool = True, batch: int = records.MOST_OPERATIONS) -> Commit:
         """Applies the pending operations, in batches of at most `batch` (4,096 at most), and also where there are none.
 
-        Each batch is followed by a collection, as in a load, unless `collect=False` leaves that out. A refused batch, and all
-        behind it, stay pending: `PoolEmpty`, `NamesFull`, `KindsFull`, `BatchLimit` say why, and what the batches before
-        it did stands: the exception has it as `applied`. Where an interrupt or `NoAnswer` broke a commit off, a batch that was
-        begun is applied once, and those behind it stay pending; the next commit has in its sums what was not told.
+        A collection follows each batch, as in a load, unless `collect=False`. A refused batch changes nothing, and stays pending
+        with those after it: `PoolEmpty`, `NamesFull`, `KindsFull`, `BatchLimit` say why, and have as `applied` what the batches
+        before it did. Where an interrupt or `NoAnswer` broke a commit off, a batch that was begun is applied once, and those
+        after it stay pending; the next commit has in its sums what wasn't told.
         """
-        told, receipts = self.ledger.commit(collect, within("batch", batch, 1, records.MOST_OPERATIONS))
-        return (told, self.ledger.taken.append(receipts))[0]  # type: ignore[func-returns-value]  # (one line: see `ledger`)
+        try:
+            done = self.ledger.commit(collect, within("batch", batch, 1, records.MOST_OPERATIONS))
+        except Refused:
+            told = noting(self.ledger.taken.append, self.ledger.telling)
+            None in told
+            raise
+        told = noting(self.ledger.taken.append, self.ledger.telling)
+        None in told
+        return done
 
     @reads
     def load(self, feed: Any, *, by: str, batch: Optional[int] = None, collect: bool = True, skip_bad: bool = False,
@@ -253,8 +262,7 @@ class Store(Generic[W, T]):
         try:
             return Session(self, self.engine.hold(slot))
         except NoSeat:
-            most = records.MOST_SEATS
-            more = f", or make the store with more seats ({most} at most)" if self.seats < most else ""
+            more = f", or make the store with more seats ({records.MOST_SEATS} at most)" * (self.seats < records.MOST_SEATS)
             raise NoSeat(f"all {self.seats} seats hold sessions: close one{more}") from None
         except Denied as fault:
             raise self.ledger.terms.denied(fault, f"open({slot})") from None
@@ -271,16 +279,21 @@ class Store(Generic[W, T]):
             raise ValueError(f"{session!r} is another store's")
         if self._rebasing is not session:
             session.must_be_open()
-            self.ledger.forget()
+            self.ledger.settle()
         self._rebasing = session
-        try:  # (nothing is done behind the line that tells it: an interrupt there would lose what it tells)
-            return (self.engine.rebase(session.held), put(self, "_rebasing", None))[0]
+        try:
+            done = self.engine.rebase(session.held)
         except Denied as fault:
+            self._rebasing = None
             if fault.word != "PoolEmpty":
                 raise self.ledger.terms.denied(fault, f"rebase({session!r})") from None
             text = f"a copy of version {session.version} finds no room in {self.blocks} blocks, and nothing was changed"
-            raise PoolEmpty(needed=self.blocks + 1, free=None, text=text,
-                            advice="Save the session, and restore it with more blocks") from None
+            advice = "Save the session, and restore it with more blocks"
+            raise PoolEmpty(needed=self.blocks + 1, free=None, text=text, advice=advice) from None
+        self.ledger.begin_anew()
+        told = noting(setattr, self, "_rebasing", None)
+        None in told
+        return done
 
     def renew(self) -> Renewed:
         """Begins anew with the last version's edges, as a store in this process does of itself before it is full of batches, or
@@ -317,32 +330,33 @@ class Store(Generic[W, T]):
     def close(self) -> None:
         """Closes sessions and ends the engine. Raises `Uncommitted` where operations are pending, also where the program fails
         (its text says both), and else `ProgramEnded` where the program tells of a fault."""
-        lost = self._end()
-        if lost:
-            raise Uncommitted(f"{self._told_of_lost(lost)} (the error has them): commit or discard first", lost)
+        fault, told = self._end()
+        None in told
+        if fault is not None:
+            raise fault
 
     def _told_of_lost(self, lost: Sequence[str]) -> str:
         """What is known of the operations that were pending."""
         return f"{len(lost)} operations were pending and are not applied"
 
-    def _end(self) -> List[str]:
-        """Ends the engine and returns what was pending. A fork ends nothing."""
+    def _end(self) -> "Tuple[Optional[StoreError], Iterator[Any]]":
+        """Ends the engine. Gives what is to be said of that, and notes that it was said. A fork ends nothing."""
         if self._is_closed or self.engine.is_elsewhere:
-            return []
+            return None, iter(())
         self.ledger.end()
-        try:
+        with suppress(StoreError):  # (what was refused is pending still, and a program that ended tells so when it is closed)
             self.ledger.settle()
-        except StoreError:
-            pass  # (what was refused is pending still, and a program that ended tells so when it is closed)
+        ended: Optional[StoreError] = None
         try:
             self.engine.close()
         except StoreError as fault:
-            self._is_closed, lost = True, self.ledger.told_pending
-            if not lost:
-                raise
-            text = f"{fault}; and {len(lost)} operations were pending and are not applied (the error has them)"
-            raise Uncommitted(text, lost) from fault
-        return (self.ledger.told_pending, put(self, "_is_closed", True))[0]
+            ended = fault
+        lost = self.ledger.told_pending
+        if lost:
+            text = f"{ended}; and {Store._told_of_lost(self, lost)}" if ended else self._told_of_lost(lost)
+            uncommitted = Uncommitted(f"{text} (the error has them)" + ": commit or discard first" * (not ended), lost)
+            uncommitted.__cause__, ended = ended, uncommitted
+        return ended, noting(setattr, self, "_is_closed", True)
 
     @property
     def is_closed(self) -> bool:
@@ -351,8 +365,8 @@ class Store(Generic[W, T]):
 
     def kill(self) -> None:
         """Ends the engine, whatever it does, with the graph and all that is pending."""
-        self._is_closed = True
         self.engine.kill()
+        self._is_closed = True
 
     def __enter__(self) -> "Store[W, T]":
         return self
@@ -360,16 +374,13 @@ class Store(Generic[W, T]):
     def __exit__(self, kind: Optional[Type[BaseException]], fault: Optional[BaseException],
                  trace: Optional[TracebackType]) -> None:
         if kind is None:
-            self.close()
-            return
-        try:
-            lost = self._end()
-        except StoreError as second:
-            if str(second) not in str(fault):
-                warnings.warn(f"closing the store: {second}", stacklevel=2)
-        else:
-            if lost:
-                warnings.warn(self._told_of_lost(lost), stacklevel=2)
+            return self.close()
+        second, told = self._end()
+        if second is not None and str(second) not in str(fault):
+            lost = second.operations if isinstance(second, Uncommitted) and second.__cause__ is None else ()
+            text = self._told_of_lost(lost) if lost else f"closing the store: {second}"
+            told = chain(noting(warnings.warn, text, None, 2), told)
+        self in told  # (it makes both)
 
     def __del__(self) -> None:
         if not getattr(self, "_is_closed", True) and not sys.is_finalizing() and not self.engine.is_elsewhere:

@@ -1,18 +1,21 @@
-"""What interrupts calls of a store, what they are, and a model of the store beside them."""
+"""What interrupts calls of a store, and what they are."""
 import contextlib
+import dis
 import functools
 import gc
+import itertools
 import os
 import random
 import signal
 import sys
 import threading
 import time
+import warnings
 
-from support import as_soon_as
+from support import ENGINE, as_soon_as
 
 import misteluk
-from misteluk import Store, survey
+from misteluk import Store
 
 PACKAGE = os.path.dirname(misteluk.__file__) + os.sep
 EDGES = {("l", "a", "b"): (5, 1, 1), ("l", "b", "c"): (7, 1, 1)}
@@ -21,8 +24,10 @@ DEGREES = {"a": (1, 0, 5), "b": (1, 1, 7), "c": (0, 1, 0)}
 # found, whose call may wait for an answer that never comes, for less.
 PATIENCE = {"timeout": 60.0}
 SOON = {"timeout": 0.5}
-# How many lines of a call are tried, and how many of them may go wrong before a test ends.
-MOST_LINES, MOST_WRONG = 3_000, 50
+# How many places of a call are tried, how many of those at its end, and how many may go wrong before a test ends. (A program has
+# to begin for each.)
+MOST_PLACES, AT_THE_END, MOST_WRONG = (30, 12, 50) if ENGINE == "library" else (4, 4, 50)
+STEPS = {}
 
 
 def made_at_once(self, what, must=False, untaken=None):
@@ -35,54 +40,88 @@ def forget(self):
     self._now = None
 
 
-def at_line(wanted, call):
-    """Makes a call and interrupts it at the so-manieth line of the package that it runs; tells whether it runs so many."""
+# The steps of Python's own after which none of its versions looks for a signal. It looks after calls and jumps back, and as a
+# function begins; Python 3.9 after most other steps too.
+QUIET = frozenset(dis.opmap[it] for it in (
+    "CACHE", "CONTAINS_OP", "COPY", "DUP_TOP", "EXTENDED_ARG", "IS_OP", "LOAD_CONST", "LOAD_FAST", "LOAD_FAST_CHECK",
+    "LOAD_FAST_LOAD_FAST", "NOP", "POP_JUMP_FORWARD_IF_NONE", "POP_JUMP_IF_NONE", "POP_TOP", "PUSH_NULL", "ROT_TWO", "STORE_FAST",
+    "STORE_FAST_LOAD_FAST", "SWAP") if it in dis.opmap)
+
+
+def at_place(wanted, call, of="opcode"):
+    """Makes a call and interrupts it at the so-manieth place of the package where Python may do so: between two steps of its own,
+    of which one line has several. Gives how many places there were by then."""
     count = 0
 
-    def trace(frame, event, _):
-        nonlocal count
-        if not frame.f_code.co_filename.startswith(PACKAGE):
+    def begin(frame, event, _):
+        code, is_quiet = frame.f_code, False
+        if not code.co_filename.startswith(PACKAGE):
             return None
-        if event == "line":
-            count += 1
-            if count == wanted:
-                raise KeyboardInterrupt
-        return trace
+        frame.f_trace_opcodes = of == "opcode"
+        steps = STEPS.setdefault(code, code.co_code)
+
+        def step(frame, event, _):
+            nonlocal count, is_quiet
+            if event == of:
+                if not is_quiet:
+                    count += 1
+                    if count == wanted:
+                        raise KeyboardInterrupt
+                is_quiet = of == "opcode" and steps[frame.f_lasti] in QUIET
+            return step
+        return step
     before = sys.gettrace()
-    sys.settrace(trace)
+    sys._getframe().f_trace_opcodes = True  # (Python 3.12 looks for this as it begins to trace)
+    sys.settrace(begin)
     try:
         call()
     except KeyboardInterrupt:
-        return True
+        pass
     finally:
         sys.settrace(before)
-    return count >= wanted
+    return count
 
 
-def lines(make, call, is_right, step=1):
-    """How many lines a call runs, and at which of them, of each `step` one, an interrupt makes it go wrong, which
-    `is_right` tells. Where many go wrong, those behind them aren't tried."""
-    wrong = []
-    for at in range(1, MOST_LINES, step):
+def at_line(wanted, call):
+    """The same at a line, of which there are few, for long calls that keep nothing; tells whether there are so many."""
+    return at_place(wanted, call, "line") == wanted
+
+
+def places(make, call, is_right, most=MOST_PLACES):
+    """How many places a call has, and at which of them an interrupt makes it go wrong, which `is_right` tells. So many are tried,
+    by chance, and those at its end; all of them where MISTELUK_INTERRUPTS is "all". Another seed is said there too."""
+    said = os.environ.get("MISTELUK_INTERRUPTS", "7")
+    counts, wrong = [], []
+    gc.freeze()  # (what is there by now isn't looked through again and again)
+    for _ in range(2):
+        scene = make()
+        counts.append(at_place(0, lambda: call(scene)))
+        scene.end()
+    tried = range(1, counts[1] + 1)
+    if said != "all" and counts[1] > most + AT_THE_END:
+        tried = [*sorted(random.Random(said).sample(tried[:-AT_THE_END], most)), *tried[-AT_THE_END:]]
+    for at in itertools.chain(tried, itertools.count(counts[1] + 1)):
         scene = make()
         try:
-            if not at_line(at, lambda: call(scene)):
-                return at - 1, wrong
+            is_over = at_place(at, lambda: call(scene)) < at
             is_right(scene)
         except Exception as fault:
+            is_over = False
             wrong.append((at, repr(fault)[:100]))
         finally:
             scene.end()
-        if len(wrong) == MOST_WRONG:
-            return at, wrong
-    raise AssertionError(f"the call runs {MOST_LINES} lines or more")
+        if is_over and at > counts[1] or len(wrong) == MOST_WRONG:
+            return counts[1], wrong
+    raise AssertionError
 
 
 class Scene:
-    """A store with two edges, a session of them, and an amount that is pending three times; or what becomes of these."""
+    """A store with two edges, a session of them, and an amount that is pending three times; or what becomes of these. What was
+    told of commits and rebases is kept."""
 
     def __init__(self, **options):
-        self.store = Store(blocks=64, seats=3, **PATIENCE, **options)
+        self.told, self.lost = [], []
+        self.store = Store(**{"blocks": 64, "seats": 3, **PATIENCE, **options})
         self.store.insert("l", "a", "b", 5, 1)
         self.store.insert("l", "b", "c", 7, 1)
         self.store.commit()
@@ -91,14 +130,15 @@ class Scene:
             self.store.add("l", "a", "b", 1, 2)
 
     def is_right(self, rebased=False, closed=False):
-        """Whether the store goes on as one that wasn't interrupted: every batch once, every seat free but that of the session."""
+        """Whether the store goes on as one that wasn't interrupted: every batch once, and told once; every seat free but that of
+        the session."""
         store, session = self.store, self.session
         gc.collect()
         if not (rebased or closed):
             assert session.edges(list(EDGES)) == list(EDGES.values()) and session.degrees() == DEGREES, "the session"
         taken = 0 if rebased or closed else 1
-        done = store.commit()
-        assert (done.updated, store.pending) == (3, 0), done
+        self.told.append(store.commit())
+        assert (sum(it.updated for it in self.told), store.pending) == (3, 0), self.told
         others = [store.open() for _ in range(3 - taken)]
         try:
             store.open()
@@ -107,26 +147,86 @@ class Scene:
         for it in others:
             assert it.edge("l", "a", "b") == (8, 1, 2) and it.edge("l", "b", "c") == (7, 1, 1), "the last version"
             it.close()
-        stat = store.stat()
-        assert (stat.names, stat.edges) == (3, 2) and stat.version == done.version in range(1 if rebased else 2, 6), stat
-        return True
+        stat, batches = store.stat(), sum(it.batches for it in self.told)
+        assert (stat.names, stat.edges, stat.version) == (3, 2, batches + (not rebased)), (stat, self.told)
+        assert self.told[-1].version == stat.version
+
+    def rebase(self):
+        self.told.append(self.store.rebase(self.session))
+
+    def was_rebased(self):
+        """Whether the store begins with what the session held, which was told once: no second time, and no commit is lost that
+        came between."""
+        store, told, wanted = self.store, self.told, (0, 3, 2, 2)
+        if not told and store.stat().version == 0:
+            assert (store.commit().version, store.rebase(self.session), store.stat().version) == (1, wanted, 1)
+            assert store.open().edge("l", "a", "b") == (8, 1, 2)
+            return
+        told = told or [store.rebase(self.session)]
+        self.told = []
+        assert told == [wanted], told
+        try:
+            store.rebase(self.session)
+        except misteluk.SessionClosed:
+            self.is_right(rebased=True)
+            return
+        raise AssertionError("it was told twice")
+
+    def nothing_pending(self):
+        self.store.discard()
+        self.told.append(self.store.commit())
+
+    def close(self):
+        try:
+            self.store.close()
+        except misteluk.Uncommitted as fault:
+            self.lost.append(fault.operations)
+
+    def leave(self):
+        """The end of a `with` that an error ends."""
+        with warnings.catch_warnings():
+            warnings.simplefilter("always")
+            warnings.showwarning = lambda *told: self.lost.append(LOST if str(told[0]) == WARNED else told)
+            self.store.__exit__(KeyError, KeyError(), None)
+
+    def was_closed(self):
+        """Whether it is told once what is lost, and all is given back."""
+        self.close()
+        self.close()
+        assert self.lost == [LOST] and self.store.is_closed, self.lost
+        if self.store.engine.name == "library":
+            desks, mine = self.store.engine.handles.desks, self.session.held.desk.raw
+            self.session.held.desk = None
+            gc.collect()
+            self.store.engine.handles.give_back(self.store.engine.library)
+            assert not any(it.raw is mine for it in desks._known), "the desk"
 
     def end(self):
         self.store.kill()
 
 
-def rebase(scene):
-    return scene.store.rebase(scene.session)
+LOST, WARNED = ["a,l,a,b,1,2\n"] * 3, "3 operations were pending and are not applied"
 
 
-# Each call, and how it is made again where it was interrupted.
+def in_batches(scene):
+    """A commit in small batches."""
+    scene.told.append(scene.store.commit(batch=1))
+
+
+def commit(scene):
+    scene.told.append(scene.store.commit())
+
+
+# Each call.
 CALLS = {
-    "commit": lambda it: it.store.commit(collect=True),
-    "small batches": lambda it: it.store.commit(batch=1),
+    "commit": commit,
+    "small batches": in_batches,
+    "nothing": Scene.nothing_pending,
     "open": lambda it: it.store.open(),
     "open a slot": lambda it: it.store.open(2),
     "stat": lambda it: it.store.stat(),
     "collect": lambda it: it.store.collect(),
+    "renew": lambda it: it.store.renew(),
     "edge": lambda it: it.session.edge("l", "b", "c"),
     "edges": lambda it: it.session.edges([("l", "b", "c"), ("l", "a", "b")]),
     "levels": lambda it: it.session.levels("a"),
@@ -135,18 +235,29 @@ CALLS = {
     "degrees": lambda it: it.session.degrees(),
     "into": lambda it: it.session.into("c"),
     "out_of": lambda it: it.session.out_of("a"),
-    "rebase": rebase,
+    "rebase": Scene.rebase,
     "close": lambda it: it.session.close(),
+    "end": Scene.close,
+    "leave": Scene.leave,
 }
+OF_LIBRARY = {"renew", "end", "leave"}
 
 
 def after(name, scene):
-    """What is true of a scene whose call was interrupted, made again where it is one that is."""
+    """Raises unless that is true of a scene which is so once its call was interrupted, and made again where it is one that is."""
     if name == "rebase":
-        scene.store.rebase(scene.session)
-    elif name == "close":
-        scene.session.close()
-    return scene.is_right(name == "rebase", name == "close")
+        scene.was_rebased()
+    elif name in ("end", "leave"):
+        scene.was_closed()
+    elif name == "nothing":
+        scene.store.discard()
+        scene.told.append(scene.store.commit())
+        assert sum(it.batches for it in scene.told) == scene.store.stat().version - 1 <= 2, scene.told
+    else:
+        if name == "close":
+            scene.session.close()
+        scene.is_right(closed=name == "close")
+    return True
 
 
 IN_A_CALL = [False]
@@ -156,9 +267,11 @@ def interrupt_now(*_):
     raise KeyboardInterrupt
 
 
-def interrupt_in_a_call(*_):
+def interrupt_in_a_call(_, frame):
     """Interrupts a call of the store, and not what the test does around it."""
-    if IN_A_CALL[0]:
+    while frame is not None and not frame.f_code.co_filename.startswith(PACKAGE):
+        frame = frame.f_back
+    if IN_A_CALL[0] and frame is not None:
         IN_A_CALL[0] = False
         raise KeyboardInterrupt
 
@@ -179,6 +292,17 @@ def has_ended(process, seconds=120.0):
     while process.returncode is None and time.monotonic() < end:
         time.sleep(0.01)
     return process.returncode is not None
+
+
+def at_each(make, call, is_right):
+    """Interrupts a call at each place, until it has no more; `is_right` is asked with the place."""
+    at, is_more = 0, True
+    while is_more:
+        at += 1
+        scene = make()
+        is_more = at_place(at, lambda: call(scene)) == at
+        is_right(scene, at)
+    return at
 
 
 def is_calling(store):
@@ -215,130 +339,3 @@ def elsewhere():
         except misteluk.StoreError as fault:
             told.append("another process's" if "another process's" in str(fault) else str(fault))
     return told
-
-
-class Model:
-    """A store, and beside it what its edges, sessions and pending operations are. Weights are counted here by hand."""
-
-    def __init__(self, seed=7):
-        self.random = random.Random(seed)
-        self.store = Store(blocks=1024, seats=4, **PATIENCE)
-        self.weights, self.pending = {}, []
-        self.held = []
-        self.steps = self.interrupts = 0
-
-    def call(self, what):
-        """Makes a call with an interrupt on its way; gives what it gave, and whether it was interrupted."""
-        try:
-            signal.setitimer(signal.ITIMER_REAL, self.random.uniform(1e-6, 4e-4))
-            IN_A_CALL[0] = True
-            value = what()
-            IN_A_CALL[0] = False
-            return value, False
-        except KeyboardInterrupt:
-            self.interrupts += 1
-            return None, True
-        finally:
-            IN_A_CALL[0] = False
-            signal.setitimer(signal.ITIMER_REAL, 0)
-
-    def run(self, interrupts):
-        while self.interrupts < interrupts:
-            self.steps += 1
-            self.random.choice((self.add, self.add, self.commit, self.load, self.open, self.close, self.ask, self.ask, self.ask,
-                                self.table, self.count))()
-        self.settle()
-        for session, weights in self.held:
-            assert session.edges(list(weights)) == [(it, 1, 1) for it in weights.values()]
-
-    def edge(self):
-        return "l", f"s{self.random.randrange(6)}", f"t{self.random.randrange(6)}"
-
-    def add(self):
-        for _ in range(self.random.randrange(1, 9)):
-            edge = self.edge()
-            before = self.store.pending
-            self.call(lambda: self.store.add(*edge, 1, 1))
-            assert self.store.pending - before in (0, 1)
-            self.pending += [edge] * (self.store.pending - before)
-
-    def commit(self):
-        """An interrupted commit is made again, and nothing is pending then; each operation is in the graph once."""
-        count = len(self.pending)
-        receipt, interrupted = self.call(lambda: self.store.commit(batch=3, collect=True))
-        if interrupted:
-            receipt = self.store.commit()
-        assert self.store.pending == 0 and receipt.inserted + receipt.updated in ((0, count) if interrupted else (count,))
-        for it in self.pending:
-            self.weights[it] = self.weights.get(it, 0) + 1
-        self.pending = []
-        assert self.store.stat().version >= receipt.version and self.store.stat().edges == len(self.weights)
-
-    def load(self):
-        """Of an interrupted load the first batches are in, as many as the versions tell; of another one all."""
-        self.commit()
-        names = [self.edge() for _ in range(self.random.randrange(1, 12))]
-        found = survey([(*it[1:], 1, 1, "l") for it in names], by="add", batch=3)
-        before = self.store.stat().version
-        _, interrupted = self.call(lambda: self.store.load(found, by="add"))
-        batches = self.store.stat().version - before
-        assert batches == len(found.parts) or interrupted and 0 <= batches < len(found.parts)
-        for it in names[:3 * batches]:
-            self.weights[it] = self.weights.get(it, 0) + 1
-        assert self.store.stat().edges == len(self.weights)
-
-    def settle(self):
-        self.commit()
-        with self.store.open() as session:
-            assert session.edges(list(self.weights)) == [(it, 1, 1) for it in self.weights.values()]
-            assert {it[:3]: it[3].weight for it in session.edges()} == self.weights
-
-    def open(self):
-        """There is a seat, as long as the held sessions don't take all."""
-        session, interrupted = self.call(self.store.open) if len(self.held) < 3 else (None, True)
-        if not interrupted:
-            self.held.append((session, dict(self.weights)))
-
-    def close(self):
-        if self.held:
-            session, _ = self.held.pop(self.random.randrange(len(self.held)))
-            self.call(session.close)
-            session.close()
-
-    def ask(self):
-        if self.held:
-            session, weights = self.random.choice(self.held)
-            edges = self.random.sample(sorted(weights), min(3, len(weights)))
-            wanted = [(weights[it], 1, 1) for it in edges]
-            found, interrupted = self.call(lambda: session.edges(edges))
-            assert interrupted or found == wanted, (found, wanted)
-            for it in edges[:1]:
-                found, interrupted = self.call(lambda: session.edge(*it))
-                assert interrupted or found == wanted[0], (found, wanted)
-                found, interrupted = self.call(lambda: session.out_of(it[1]))
-                assert interrupted or found == {target: (weight, 1, 1) for (_, source, target), weight in weights.items()
-                                                if source == it[1]}, (found, it)
-
-    def table(self):
-        if self.held:
-            session, weights = self.random.choice(self.held)
-            for what, of_value in ((session.degrees, lambda it: it.weight_out), (session.components, lambda it: 0)):
-                found, interrupted = self.call(what)
-                names = {it for edge in weights for it in edge[1:]}
-                assert interrupted or names == set(found), (names, found)
-                assert interrupted or sum(map(of_value, found.values())) in (0, sum(weights.values()))
-
-    def count(self):
-        stat, interrupted = self.call(self.store.stat)
-        assert interrupted or stat.edges == len(self.weights)
-
-    def end(self):
-        self.store.kill()
-
-
-if __name__ == "__main__":  # python3 interrupting.py 10000: so many interrupts by a timer, beside the model
-    with handler(interrupt_in_a_call):
-        MODEL = Model(int(sys.argv[2]) if len(sys.argv) > 2 else 7)
-        MODEL.run(int(sys.argv[1]))
-        MODEL.end()
-    print(f"{MODEL.interrupts} interrupts in {MODEL.steps} steps, over the {MODEL.store.engine.name}: nothing wrong")

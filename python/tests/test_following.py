@@ -10,11 +10,11 @@ import unittest
 from unittest import mock
 
 import interrupting
-from interrupting import handler, interrupt_in_a_call, made_at_once
+from interrupting import PATIENCE, handler, interrupt_in_a_call, made_at_once, places
 from support import ENGINE, OF_PIPES, Case, as_soon_as
 
 import misteluk
-from misteluk import Columns
+from misteluk import Columns, Store
 from misteluk.engine import calls
 from misteluk.feeds import following, growing
 
@@ -337,20 +337,56 @@ class Following(Case):
                 self.check(step, followed, model)
         self.assertEqual(list(followed), [])
         self.assertGreaterEqual(interrupts, count)
-        # (an interrupt that comes when a step was given and isn't taken yet loses that one: it is told by the next one's rows)
-        self.assertGreaterEqual(len(steps), steps[-1] - 5)
-        self.assertEqual(sorted(set(steps)), steps)
+        self.assertEqual(steps, list(range(1, steps[-1] + 1)))
 
     def test_interrupts(self):
         self.interrupted(40)
 
+    def places(self):
+        path = self.file("places.csv", "a,b,1,1\nb,c,2,2\na,b,4,3\nc,d,8,4\na,b,16,5\n")
+
+        class Scene:
+            """A feed that is followed to its end, in three steps, and those that were given."""
+
+            def __init__(self):
+                self.store, self.steps = Store(blocks=64, **PATIENCE), []
+                self.followed = self.store.follow(path, by="add", batch=2, until_end=True, progress=False,
+                                                    columns=Columns(1, 2, weight=3, time=4))
+
+            def go_on(self):
+                for step in self.followed:
+                    self.steps.append(step)
+
+            def is_right(self):
+                self.go_on()
+                found = [(it.commit.version, it.rows, it.line) for it in self.steps]
+                assert found == [(1, 2, 2), (2, 4, 4), (3, 5, 5)], found
+                with self.store.open() as session:
+                    assert session.edge("link", "a", "b") == (21, 1, 5) and len(session) == 3
+
+            def end(self):
+                self.followed.close()
+                self.store.kill()
+        return places(Scene, Scene.go_on, Scene.is_right)
+
+    def test_each_step_is_given_once(self):
+        count, wrong = self.places()
+        self.assertGreater(count, 100)
+        self.assertEqual(wrong, [])
+
     def test_interrupts_find_a_fault(self):
         """Where a step is lost the feed ends early, and an alarm may still come in the place of that."""
         self.let_go = self.kill
-        for where, name, fault in ((calls.Calls, "make", made_at_once), (following.Following, "_keep_untaken", lambda *_: None)):
-            with mock.patch.object(where, name, fault), self.assertRaises((Exception, KeyboardInterrupt)):
-                for _ in range(9):  # (where a timer's interrupts miss it, others don't)
-                    self.interrupted(60)
+        with mock.patch.object(calls.Calls, "make", made_at_once), self.assertRaises((Exception, KeyboardInterrupt)):
+            for _ in range(9):  # (where a timer's interrupts miss it, others don't)
+                self.interrupted(60)
+
+        def early(call, *given):
+            """That it is given is noted before it is."""
+            call(*given)
+            return iter(())
+        with mock.patch.object(following, "noting", early), mock.patch.dict(os.environ, {"MISTELUK_INTERRUPTS": "all"}):
+            self.assertGreater(len(self.places()[1]), 0)
 
     def test_an_edge_list(self):
         path = self.file("list.txt", "# edges\n1 2 7\n2\t3\t8\n")

@@ -18,7 +18,7 @@ import misteluk
 from misteluk import Edge, Store
 from misteluk.engine import calling, finding, interface, making
 from misteluk.engine.finding import OF_LIBRARY, find_library
-from misteluk.engine.guard import Guard, Notes, Owned, Step, alone
+from misteluk.engine.guard import Guard, Notes, Owned, alone
 
 SESSION = []
 
@@ -233,11 +233,6 @@ class Choice(Case):
 
 class Guarding(Case):
     """What keeps calls from being made twice."""
-
-    def test_a_step_is_made_once(self):
-        step = Step(lambda it: made.append(it) or len(made), 7)
-        made = []
-        self.assertEqual((step.make(), step.make(), made), (1, 1, [7]))
 
     def test_what_is_let_go_is_given_back_once(self):
         notes, given = Notes(), []

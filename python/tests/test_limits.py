@@ -1,9 +1,10 @@
 """How much a store takes: limits that are said, and a store in process that has more room once it is needed."""
+import functools
 import itertools
 import unittest
 from unittest import mock
 
-from interrupting import at_line, handler, interrupt_now
+from interrupting import CALLS, Scene, places
 from support import ENGINE, Case
 
 import misteluk
@@ -226,23 +227,23 @@ class Room(Case):
         self.assertLess(store.stat().names, 11)
 
     def test_an_interrupt_while_it_becomes_larger(self):
-        """At each few lines: the batch is in once, when the commit is made again."""
-        at, is_more = 1, True
-        with handler(interrupt_now), mock.patch.object(library, "FIRST_BLOCKS", 16):
-            while is_more:
-                store = self.store("insert k a b 1 1")
-                held = store.open()
+        """The batch is in once, and told once, when the commit is made again."""
+        class Small(Scene):
+            def __init__(self, **options):
+                super().__init__(**options)
                 for it in range(30):
-                    store.add("k", f"s{it}", "t", 1, 1)
-                is_more = at_line(at, store.commit)
-                if is_more:
-                    store.commit()
-                with self.subTest(at=at), store.open() as session:
-                    self.assertEqual((store.stat().version, store.pending, len(session), len(held)), (2, 0, 31, 1))
-                    self.assertEqual({it.weight for it in session.out_of("s3").values()}, {1})
-                store.close()
-                at += 3
-        self.assertGreater(at, 150)
+                    self.store.add("l", f"s{it}", "t", 1, 1)
+
+            def is_right(self):
+                self.told.append(self.store.commit())
+                with self.store.open() as session:
+                    assert (sum(it.inserted for it in self.told), self.store.pending, len(session)) == (30, 0, 32), self.told
+                    assert {it.weight for it in session.out_of("s3").values()} == {1} and len(self.session) == 2
+                assert sum(it.batches for it in self.told) == self.store.stat().version - 1
+        with mock.patch.object(library, "FIRST_BLOCKS", 16):
+            count, wrong = places(functools.partial(Small, blocks=None), CALLS["commit"], Small.is_right, 60)
+        self.assertGreater(count, 500)
+        self.assertEqual(wrong, [])
 
     def test_a_restored_store_grows_where_the_saved_one_did(self):
         with mock.patch.object(library, "FIRST_BLOCKS", 16):

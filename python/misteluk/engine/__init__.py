@@ -8,10 +8,12 @@ Choices:
   script and a saved file.
 - A load sends nothing before the check of its feed is done: to send ahead only hid the program's time in the client's.
 - A table is a mapping and not a dict. It holds the engine's arrays, and makes a dict when somebody asks by name.
-- An interrupt can't separate a call from the note of its result: both are one step of the interpreter (`list.extend` of a
-  `starmap`). A finalizer's note is made by code in C, because an interrupt in a finalizer is lost.
+- Whether an interrupted call was made the library's count of versions says. That a caller has a result is noted by the last step
+  before a `return`, after which no Python looks for signals (`guard.noting`). A finalizer's note is made by code in C, because
+  an interrupt in a finalizer is lost.
 - A store in process grows by a copy. A desk has its blocks and limits from its opening on, and each block takes memory. So a
   store opens small, and a larger desk takes its place.
-- A store renews itself before a batch, and never after one: an interrupt then finds the batch begun or not, as without that.
+- A store renews itself only where the refused batch fits then, by count; else another desk gets the batch, and takes the place
+  of the one in use once it has it. So a refused batch changes nothing.
 - A fleet uses programs, because its parts are many and its questions are other people's code.
 """

@@ -11,10 +11,10 @@ from typing import Any, Dict, List, NamedTuple, Optional, Tuple
 
 from . import interface
 from .finding import next_step
-from .guard import Notes, Owned, Step
+from .guard import Notes, Owned
 from .interface import Code, Library
 from .operations import INSERT, REMOVE, Numbered, Operations
-from .protocol import A_FEW, Denied
+from .protocol import A_FEW, Denied, Receipt
 from ..errors import LibraryNotFound, NoMemory, StoreError
 from ..values.fields import numpy_for
 
@@ -110,15 +110,15 @@ class Known(NamedTuple):
 
 
 class LibraryFlight:
-    """A batch on its way: in a handle of C, which is emptied as it is applied."""
+    """A batch on its way: in a handle of C, which is emptied as it is applied; and what it did, once that is known."""
 
-    __slots__ = ("batch", "collect", "cut", "owned", "counts", "step")
+    __slots__ = ("batch", "collect", "cut", "owned", "counts", "receipt")
 
     def __init__(self, batch: Operations, collect: bool, owned: Owned) -> None:
         self.batch, self.collect, self.owned = batch, collect, owned
         self.cut: List[None] = []
         self.counts = interface.Counts()
-        self.step: Optional[Step] = None
+        self.receipt: Optional[Receipt] = None
 
 
 def fill(library: Library, raw: interface.Batch, batch: Operations) -> None:

@@ -1,8 +1,8 @@
 """Calls that change something, one at a time and each of them once, whatever interrupts them.
 
-Python raises an interrupt, or what else a signal's handler raises, between any two steps of the main thread. So what such a call
-gave is kept in the same step as it is made (`Step`), and whoever finds a step that was made takes what it gave, and makes it no
-second time.
+Python raises an interrupt, or what else a signal's handler raises, in the main thread: after a call, after a jump back, as a
+function begins, and Python 3.9 after most steps. So whether a call of the library was made its own counts say (`engine.library`),
+and that the caller has what a call gave is noted by the one kind of step after which no Python looks for a signal (`noting`).
 """
 from __future__ import annotations
 
@@ -15,30 +15,26 @@ from collections import deque
 from itertools import repeat, starmap
 from operator import attrgetter
 from types import FrameType
-from typing import Any, Callable, Deque, Dict, List, Optional, TypeVar, cast
+from typing import Any, Callable, Deque, Dict, Iterator, List, Optional, TypeVar, cast
 
 from ..errors import StoreError
 
 F = TypeVar("F", bound=Callable[..., Any])
-# Sets an attribute and gives nothing: in an expression it is one line with what is given then.
-put: Any = setattr
 _RAW = attrgetter("raw")
 _this_frame = sys._getframe
 
 
-class Step:
-    """A call of a function in C that is made once. What it gives is put into a list by the same step: no handler runs within."""
+def noting(call: Callable[..., Any], *given: Any) -> "Iterator[Any]":
+    """A call of a function in C, which is made by whoever looks for something in it. A method that ends so
 
-    __slots__ = ("call", "given", "gave")
+        told = noting(setattr, self, "is_told", True)
+        None in told
+        return result
 
-    def __init__(self, call: Callable[..., Any], *given: Any) -> None:
-        self.call, self.given = call, given
-        self.gave: List[Any] = []
-
-    def make(self) -> Any:
-        if not self.gave:
-            self.gave.extend(starmap(self.call, (self.given,)))
-        return self.gave[0]
+    notes that it gives its result, and gives it, and no interrupt comes between: Python looks for signals neither after `in` nor
+    after a name. An interrupt before that leaves it unnoted. A `raise` may stand for the `return`.
+    """
+    return starmap(call, (given,))
 
 
 class Note(weakref.ref):  # type: ignore[type-arg]

@@ -1,6 +1,7 @@
 """A version that a handle of the library holds, and what it answers."""
 from __future__ import annotations
 
+import weakref
 from array import array
 from bisect import bisect_left
 from ctypes import c_size_t, c_uint32, c_uint64, c_void_p
@@ -9,11 +10,12 @@ from operator import itemgetter
 from typing import Any, Dict, List, NamedTuple, Optional, Protocol, Sequence, Tuple, Union
 
 from . import interface
-from .calling import Handles, Known, address, check, refusal_of, room, texts_of
-from .guard import Guard, Notes, Owned, Step
+from .calling import Handles, Known, LibraryFlight, address, check, refusal_of, room, texts_of
+from .guard import Guard, Notes, Owned
 from .interface import Code, Library
 from .protocol import WHOLE, Arrays, Denied, Ends, Marks, Scope
-from ..errors import SessionClosed
+from ..errors import NoSeat, SessionClosed
+from ..values.answers import Rebased
 from ..values.limits import Limits
 
 # What no hold has; and how many edges of a vertex are asked for at first.
@@ -21,28 +23,23 @@ NO_HOLD, A_ROW = (1 << 64) - 1, 32
 ALL_EDGES = interface.View(WHOLE.since, WHOLE.until, interface.ANY_KIND)
 
 
-class Tally:
-    """How many operations a desk keeps: those of each batch that it applied."""
-
-    __slots__ = ("count",)
-
-    def __init__(self) -> None:
-        self.count = 0
-
-
 class Opening(NamedTuple):
     """What an engine has from one beginning anew to the next: its desk, and the holds that are to be given back there; how many
-    versions were made before; its names; the desk's blocks and limits; the operations that it keeps; and the version at which it
-    is about to begin anew, with the step by which it does."""
+    versions were made before, and the last one's number; its names; the desk's blocks and limits; how many operations it keeps.
+    And what is on its way, a batch or that the desk begins anew: whether it was done the desk's own count of versions says."""
 
     desk: Owned
     holds: Notes
     before: int
+    number: int
     known: Known
     blocks: int
     shape: Limits
-    kept: Tally
-    anew: Optional[Tuple[int, Step]] = None
+    kept: int = 0
+    flying: Optional[LibraryFlight] = None
+    begins_anew: bool = False
+    # The last rebase: its version, what it did, and the versions that it closes.
+    rebased: "Optional[Tuple[weakref.ref[LibraryVersion], Rebased, List[weakref.ref[LibraryVersion]]]]" = None
 
 
 class Holder(Protocol):
@@ -91,9 +88,7 @@ class LibraryVersion:
         self._versions, self._known, self._before = engine.handles.versions, opening.known, opening.before
         self.desk, self._holds = opening.desk, opening.holds
         self._first = Owned(interface.Version(), self._versions)
-        hold = interface.Hold(NO_HOLD, NO_HOLD)
-        self._hold = self._holds.know(self, hold)
-        self.step = Step(self._library.desk_hold, self.desk.raw, self._first.raw, hold)
+        self._hold = self._holds.know(self, interface.Hold(NO_HOLD, NO_HOLD))
         self.kept = Kept()
         self._is_open = False
         self.number = self.count = 0
@@ -101,7 +96,11 @@ class LibraryVersion:
         self.told: Dict[str, bytes] = {}
 
     def begin(self) -> None:
-        """Asks what it holds."""
+        """Takes hold of the desk's last version, and asks what that is. Raises `NoSeat`."""
+        code = self._library.desk_hold(self.desk.raw, self._first.raw, self._hold.raw)
+        if code == Code.NO_SEAT:
+            raise NoSeat()
+        check(code)
         size = interface.Size()
         check(self._library.version_size(self._first.raw, size))
         self.number, self.count, self._edges = size.version + self._before, size.vertices, size.edges
@@ -115,10 +114,14 @@ class LibraryVersion:
     def close(self) -> None:
         self._engine.release(self)
 
+    def leave_seat(self) -> None:
+        """Lets the hold go. It answers on, and its blocks aren't the desk's any more."""
+        self._holds.let_go(self._hold)
+
     def end(self) -> None:
         """Lets the hold go, and the handles that nobody asks by now; the others go with those who do so."""
         self._is_open = False
-        self._holds.let_go(self._hold)
+        self.leave_seat()
         self._first = Owned(interface.Version(), self._versions)
         self.kept, self.told = Kept(), {}  # (last: who finds no handle there finds no first one either)
 

@@ -1,8 +1,10 @@
 """The store in this process: libmisteluk.so, by ctypes.
 
 A desk takes batches; versions of it are held by handles, which any thread may ask while the desk works, since ctypes lets other
-threads run meanwhile. An interrupt, as Ctrl-C, comes behind a call and not amid it. What a finalizer lets go it only notes: the
-next call of the engine frees it. At the end of the process nothing is freed, and in a fork nothing at all.
+threads run meanwhile. An interrupt, as Ctrl-C, comes after a call and not amid it: whether the call was made the desk's count of
+versions says. A batch that finds no room is refused before anything is done for it, or tried in another desk, which takes the
+place of the one in use once it has the batch. What a finalizer lets go it only notes: the next call of the engine frees it. At
+the end of the process nothing is freed, and in a fork nothing at all.
 """
 from __future__ import annotations
 
@@ -11,18 +13,18 @@ import struct
 import time
 import weakref
 from ctypes import c_uint64
-from typing import Any, Callable, Dict, List, Optional, Sequence, Set, Tuple
+from typing import Any, Dict, Iterable, List, Optional, Sequence, Tuple
 
 from . import interface
 from .calling import MOST_AT_ONCE, WORDS, Known, LibraryFlight, check, fill, opened, refusal_of
 from .copies import Content, content_of, operations_of
 from .finding import find_library
-from .guard import Guard, Notes, Owned, Step, alone
-from .held import LibraryVersion, Opening, Tally
+from .guard import Guard, Notes, Owned, alone
+from .held import LibraryVersion, Opening
 from .interface import Code
 from .operations import REMOVE, Operations
 from .protocol import Denied, Receipt
-from ..errors import NoSeat, StoreError
+from ..errors import NoSeat, SessionClosed, StoreError
 from ..values.answers import Collected, Commit, Rebased, Renewed, Stat
 from ..values.limits import MOST_BATCHES, MOST_BLOCKS, MOST_KINDS, MOST_WEIGHT, Limits
 
@@ -53,8 +55,6 @@ class LibraryEngine:
         # The handle of a batch that was applied, and so has no operation: the next one takes it.
         self._empty: List[Owned] = []
         self._freed = c_uint64()
-        # The last rebase: its version, what it did, and the versions that it closes.
-        self._rebased: "Optional[Tuple[LibraryVersion, Rebased, List[weakref.ref[LibraryVersion]]]]" = None
         # (an endless one has few vertices at first, so that it lets those go that have no edge, before it takes many)
         is_plain = limits.vertices is limits.kinds is None
         self._opening = self._new(0, blocks or FIRST_BLOCKS, limits.shape(0, MOST_KINDS if endless and is_plain else 0))
@@ -64,7 +64,7 @@ class LibraryEngine:
         desk = Owned(interface.Desk(), self.handles.desks)
         limits = interface.Limits(*shape[:3])
         check(self.library.desk_new_within_weight(limits, shape.weight or MOST_WEIGHT, blocks, desk.raw))
-        return Opening(desk, Notes(), version, Known.nothing(), blocks, shape, Tally())
+        return Opening(desk, Notes(), version, version, Known.nothing(), blocks, shape)
 
     @property
     def blocks(self) -> int:
@@ -72,7 +72,7 @@ class LibraryEngine:
 
     @property
     def operations_kept(self) -> int:
-        return 0 if self._opening.shape.batches == MOST_BATCHES else self._opening.kept.count
+        return 0 if self._opening.shape.batches == MOST_BATCHES else self._opening.kept
 
     @property
     def has_ended(self) -> bool:
@@ -90,23 +90,30 @@ class LibraryEngine:
         return f"the library {self.path}"
 
     def _settle(self) -> Opening:
-        """Takes what an interrupt left, and gives back what was noted."""
+        """Finds what became of a call that was interrupted, and gives back what was noted."""
         if self.is_closed:
             raise StoreError("the store is closed")
         opening = self._opening
-        if opening.anew is not None:
-            version, step = opening.anew
-            begun = step.gave == [Code.OK]
-            opening = opening._replace(anew=None)
-            if begun:
-                opening = opening._replace(before=version, kept=Tally())
-                opening.holds.forget()
-            self._opening = opening
+        if opening.flying is not None or opening.begins_anew:
+            opening = self._opening = self._found(opening)
         holds = opening.holds
         if holds.gone or holds.left:
             holds.give_back(self.library.desk_release, opening.desk.raw)
         self.handles.give_back(self.library)
         return opening
+
+    def _found(self, opening: Opening) -> Opening:
+        """What became of what is on its way. A desk counts one version more where the batch is in, and from 0 where it began
+        anew."""
+        number, flight = self._stat(opening).version, opening.flying
+        if number < opening.number:
+            opening = opening._replace(before=opening.number, kept=0)
+        elif flight is not None and number > opening.number:
+            version, inserted, updated, removed, absent, overflowed, expired = _COUNTS.unpack(flight.counts)
+            flight.receipt = Receipt(Commit(version + opening.before, inserted, updated, removed, absent, overflowed, 1, expired))
+            self._empty = [flight.owned]
+            opening = opening._replace(number=number, kept=opening.kept + flight.batch.size)
+        return opening._replace(flying=None, begins_anew=False)
 
     def _stat(self, opening: Opening) -> Stat:
         stat = interface.Stat()
@@ -132,110 +139,83 @@ class LibraryEngine:
 
     @alone
     def landed(self, flight: LibraryFlight) -> Optional[Receipt]:
-        opening = self._settle()
-        return self._receipt(opening, flight) if flight.step and flight.step.gave == [Code.OK] else None
+        self._settle()
+        return None if flight.receipt is None else self._receipt(flight)
 
     @alone
     def fly(self, flight: LibraryFlight) -> Receipt:
-        opening = self._settle()
-        code = self._applied(opening, flight)
+        code = self._applied(self._settle(), flight)
         if code:
-            opening = self._helped(opening, code, flight)
-        return self._receipt(opening, flight)
-
-    def _helped(self, opening: Opening, code: int, flight: LibraryFlight) -> Opening:
-        """Applies a batch that was refused, once there is room for it. Raises `Denied` where nothing makes any."""
-        tried: "Set[Tuple[str, int]]" = set()
-        while code:
-            helped = self._help(opening, code, flight, tried)
-            if helped is None:
-                flight.step = None
-                raise self._denied(self._opening, code, flight)
-            opening, code = helped, self._applied(helped, flight)
-        return opening
+            self._help(self._settle(), code, flight)
+        return self._receipt(flight)
 
     def _applied(self, opening: Opening, flight: LibraryFlight) -> int:
-        """The code by which a batch was applied, once, or refused."""
-        step = flight.step
-        if step is None or step.gave and step.gave[0]:
-            step = flight.step = Step(self.library.desk_apply, opening.desk.raw, flight.owned.raw, flight.counts)
-        code: int = step.make()
-        return code
+        """The code by which the desk takes a batch, or refuses it."""
+        self._opening = opening._replace(flying=flight)
+        return self.library.desk_apply(opening.desk.raw, flight.owned.raw, flight.counts)
 
-    def _receipt(self, opening: Opening, flight: LibraryFlight) -> Receipt:
-        version, inserted, updated, removed, absent, overflowed, expired = _COUNTS.unpack(flight.counts)
-        self._empty = [flight.owned]
-        opening.kept.count += flight.batch.size
+    def _receipt(self, flight: LibraryFlight) -> Receipt:
+        opening = self._settle()
+        assert flight.receipt is not None  # (it is in)
         if flight.collect:
-            check(self.library.desk_collect(opening.desk.raw, self._freed))
-        return Receipt(Commit(version + opening.before, inserted, updated, removed, absent, overflowed, 1, expired))
+            self._collect(opening)
+        return flight.receipt
 
-    def _help(self, opening: Opening, code: int, flight: LibraryFlight, tried: "Set[Tuple[str, int]]") -> Optional[Opening]:
-        """Makes room for a batch that was refused, by what wasn't tried yet for such a refusal; `None` where nothing helps."""
-        is_full = code in (Code.NAMES_FULL, Code.KINDS_FULL)
-        stat = self._stat(opening)
-        ways: Sequence[Tuple[str, object, Callable[[], Optional[Opening]]]] = (
-            ("collect", code == Code.BLOCKS_FULL and self._collect(opening), lambda: opening),
-            ("begin anew", code == Code.BATCHES_FULL or code == Code.BLOCKS_FULL and stat.retired,
-             lambda: self._begin_anew(opening, stat)),
-            ("let go", is_full and self._endless, lambda: self._without_idle_names(opening, stat)),
-            ("grow", is_full or code == Code.BLOCKS_FULL, lambda: self._grown(self._opening, code, flight)))
-        for name, is_of_use, way in ways:
-            if is_of_use and (name, code) not in tried:
-                tried.add((name, code))
-                found = way()
-                if found is not None:
-                    return found
-        return None
+    # Room.
 
-    def _without_idle_names(self, opening: Opening, stat: Stat) -> Optional[Opening]:
-        opening = self._begin_anew(opening, stat)  # (so that there is a seat to read it by)
-        try:
-            return self._copy(self._content(opening).without_idle_names(), stat.version)
-        except Denied:
-            return None  # (the copy finds no room)
+    def _help(self, opening: Opening, code: int, flight: LibraryFlight) -> None:
+        """Applies a batch that was refused, where there can be room for it. Else raises, and nothing is changed."""
+        if code not in WORDS:
+            raise refusal_of(code)
+        stat, is_crowded = self._stat(opening), code in (Code.NAMES_FULL, Code.KINDS_FULL)
+        if code == Code.BATCHES_FULL:
+            version = self._last(opening)
+            is_crowded = not self._has_room(opening.shape, *_wanted(flight, version.names(), version.kinds()))
+            version.end()
+        if not is_crowded and flight.batch.asked(stat.used) <= stat.free + stat.retired:
+            check(self._applied(self._begin_anew(opening), flight))
+        else:
+            self._opening = self._moved(opening, stat, flight, is_crowded)
 
-    def _wanted(self, opening: Opening, flight: LibraryFlight) -> Tuple[Content, int, int]:
-        """What the last version holds, and how many vertices and kinds there would be with a batch."""
-        content = self._content(opening)
-        rows = [it for it in flight.batch.rows if it[0] < REMOVE]
-        names = {*content.names, *(it[2] for it in rows), *(it[3] for it in rows)}
-        return content, len(names), len({*content.kinds, *(it[1] for it in rows)})
+    def _moved(self, opening: Opening, stat: Stat, flight: LibraryFlight, is_crowded: bool) -> Opening:
+        """Another desk, with more room, and a batch in it. An endless store lets names and kinds go that have no edge, where
+        there would be too many. Raises `Denied` where what was said leaves no room."""
+        asked, blocks = flight.batch.asked(stat.used), opening.blocks
+        while self.grows and asked > blocks - stat.used and blocks < MOST_BLOCKS:
+            blocks = min(blocks * MORE_BLOCKS, MOST_BLOCKS)
+        is_short = asked > blocks - stat.used
+        if is_short and not is_crowded:
+            raise Denied("PoolEmpty", stat=stat)
+        content, shape = self._content(opening), opening.shape
+        if is_crowded and self._endless:
+            content = content.without_idle_names()
+        vertices, kinds = _wanted(flight, content.names, content.kinds)
+        if not self._has_room(shape, vertices, kinds):
+            over = self.limits.over(vertices, kinds)
+            if over:
+                raise Denied("NamesFull" if vertices > (shape.vertices or 0) else "KindsFull",
+                             advice=f"There would be {'; '.join(over)}. {self.limits.advice}")
+            shape = self.limits.shape(vertices, kinds)
+        if is_short:
+            raise Denied("PoolEmpty", stat=stat)
+        moved = self._copy(content, opening.number, blocks, shape)
+        check(self.library.desk_apply(moved.desk.raw, flight.owned.raw, flight.counts))
+        return moved._replace(flying=flight)
 
-    def _grown(self, opening: Opening, code: int, flight: LibraryFlight) -> Optional[Opening]:
-        """A desk with the same edges, and more room for a batch; `None` where what was said leaves none."""
-        blocks = min(opening.blocks * MORE_BLOCKS, MOST_BLOCKS)
-        if code == Code.BLOCKS_FULL and (not self.grows or blocks == opening.blocks):
-            return None
-        stat = self._stat(opening)
-        opening = self._begin_anew(opening, stat)  # (so that there is a seat to read it by)
-        if code == Code.BLOCKS_FULL:
-            return self._copy(self._content(opening), stat.version, blocks=blocks)
-        content, vertices, kinds = self._wanted(opening, flight)
-        if self.limits.over(vertices, kinds):
-            return None
-        return self._copy(content, stat.version, shape=self.limits.shape(vertices, kinds))
-
-    def _denied(self, opening: Opening, code: int, flight: LibraryFlight) -> Exception:
-        """What is raised where a batch was refused, and nothing helped."""
-        if code == Code.BLOCKS_FULL:
-            return Denied("PoolEmpty", stat=self._stat(opening))
-        if code in (Code.NAMES_FULL, Code.KINDS_FULL):
-            over = self.limits.over(*self._wanted(opening, flight)[1:])
-            return Denied(WORDS[Code(code)], advice=f"There would be {'; '.join(over)}. {self.limits.advice}" if over else None)
-        return refusal_of(code)
+    @staticmethod
+    def _has_room(shape: Limits, vertices: int, kinds: int) -> bool:
+        return vertices <= (shape.vertices or 0) and kinds <= (shape.kinds or 0)
 
     @alone
     def fit(self, vertices: int, kinds: int, blocks: int) -> None:
         opening = self._settle()
         shape, more = opening.shape, opening.blocks
-        if (vertices > (shape.vertices or 0) or kinds > (shape.kinds or 0)) and not self.limits.over(vertices, kinds):
+        if not (self._has_room(shape, vertices, kinds) or self.limits.over(vertices, kinds)):
             shape = self.limits.shape(vertices, kinds)
         while self.grows and more < min(blocks, MOST_BLOCKS):
             more = min(more * MORE_BLOCKS, MOST_BLOCKS)
         if (shape, more) != (opening.shape, opening.blocks):
-            stat = self._stat(opening)
-            self._copy(self._content(self._begin_anew(opening, stat)), stat.version, more, shape)
+            self._opening = self._copy(self._content(opening), opening.number, more, shape)
 
     # Versions.
 
@@ -268,13 +248,19 @@ class LibraryEngine:
 
     def _hold(self, opening: Opening, slot: int) -> LibraryVersion:
         version = LibraryVersion(self, opening, slot)
-        code = version.step.make()
-        if code == Code.NO_SEAT:
-            raise NoSeat()
-        check(code)
         version.begin()
         self._versions = [*(it for it in self._versions if it() is not None), weakref.ref(version)]
         return version
+
+    def _last(self, opening: Opening) -> LibraryVersion:
+        """The last version, to be read here."""
+        try:
+            return self._hold(opening, -1)
+        except NoSeat:  # (sixteen sessions have seats: the oldest one answers on without its own)
+            sessions = [it for it in (held() for held in self._held.values()) if it is not None and it.desk is opening.desk]
+            min(sessions, key=lambda it: it.number).leave_seat()
+            opening.holds.give_back(self.library.desk_release, opening.desk.raw)
+            return self._hold(opening, -1)
 
     @alone
     def release(self, version: LibraryVersion) -> None:
@@ -295,20 +281,17 @@ class LibraryEngine:
 
     # Beginning anew.
 
-    def _begin_anew(self, opening: Opening, stat: Stat) -> Opening:
+    def _begin_anew(self, opening: Opening) -> Opening:
         """The desk begins anew over its last version, with the same names by the same numbers."""
-        step = Step(self.library.desk_rebase, opening.desk.raw)
-        self._opening = opening._replace(anew=(stat.version, step))
-        code = step.make()
-        opening = self._settle()
-        check(code)
-        return opening
+        self._opening = opening._replace(begins_anew=True, flying=None)
+        check(self.library.desk_rebase(opening.desk.raw))
+        return self._settle()
 
-    def _copy(self, content: Content, number: int, blocks: Optional[int] = None, shape: Optional[Limits] = None) -> Opening:
-        """A new desk takes the place of the one in use, with this content as the version of this number, and with so many blocks
-        and these limits where they are said. Its batches are as small as its free blocks want them. Raises `Denied` (PoolEmpty)
-        where even one operation finds none; nothing changes then."""
-        opening = self._new(number, blocks or self._opening.blocks, shape or self._opening.shape)
+    def _copy(self, content: Content, number: int, blocks: int, shape: Limits) -> Opening:
+        """A new desk, for which who makes it gives the one in use, with this content as the version of this number, so many
+        blocks and these limits. Its batches are as small as its free blocks want them. Raises `Denied` (PoolEmpty) where even one
+        operation finds none."""
+        opening = self._new(number, blocks, shape)._replace(rebased=self._opening.rebased)
         operations = list(operations_of(content))
         at = 0
         while at < len(operations):
@@ -318,12 +301,11 @@ class LibraryEngine:
             self._collect(opening)
             at += len(part)
         check(self.library.desk_rebase(opening.desk.raw))
-        self._opening = opening
         return opening
 
     def _content(self, opening: Opening) -> Content:
         """What the last version holds."""
-        version = self._hold(opening, -1)
+        version = self._last(opening)
         try:
             return content_of(version)
         finally:
@@ -331,39 +313,41 @@ class LibraryEngine:
 
     @alone
     def rebase(self, version: Any) -> Rebased:
-        if self._rebased is not None and self._rebased[0] is version:  # (an interrupt came before this was told)
-            self._close_versions(self._rebased[2])
-            return self._rebased[1]
         opening = self._settle()
-        stat = self._stat(opening)
-        if version.desk is opening.desk and version.number == stat.version:
-            opening = self._begin_anew(opening, stat)
-        else:
-            opening = self._copy(content_of(version), 0)
-        self._opening = opening._replace(before=0)
-        found = self._stat(self._opening)
-        self._rebased = version, Rebased(0, found.names, found.edges, found.used), self._versions
-        self._close_versions(self._versions)
-        return self._rebased[1]
+        if opening.rebased is None or opening.rebased[0]() is not version:  # (else an interrupt came before this was told)
+            if not version.is_open:
+                raise SessionClosed(f"the session of version {version.number} is closed")
+            if version.desk is opening.desk and version.number == opening.number:
+                opening = self._begin_anew(opening)
+            else:
+                opening = self._copy(content_of(version), 0, opening.blocks, opening.shape)
+            found = self._stat(opening)
+            rebased = weakref.ref(version), Rebased(0, found.names, found.edges, found.used), self._versions
+            self._opening = opening = opening._replace(before=0, number=0, rebased=rebased)
+        assert opening.rebased
+        self._close_versions(opening.rebased[2])
+        return opening.rebased[1]
 
     @alone
     def renew(self) -> Renewed:
         begun, opening = time.monotonic(), self._settle()
-        stat = self._stat(opening)
-        self._begin_anew(opening, stat)
+        stat = self._stat(self._begin_anew(opening))
         return Renewed(stat.version, stat.names, stat.edges, 0, time.monotonic() - begun)
 
     # The end.
 
     @alone
     def close(self) -> None:
-        if self.is_closed:
-            return
+        self.is_closed = True
         self._close_versions(self._versions)
-        opening, self.is_closed = self._opening, True
-        self._opening = opening._replace(desk=Owned(interface.Desk(), self.handles.desks))
-        del opening
+        self._opening = self._opening._replace(desk=Owned(interface.Desk(), self.handles.desks), flying=None, rebased=None)
         self.handles.give_back(self.library)
 
     def kill(self) -> None:
         self.close()
+
+
+def _wanted(flight: LibraryFlight, names: Iterable[str], kinds: Iterable[str]) -> Tuple[int, int]:
+    """How many vertices and kinds there would be, with these, after a batch."""
+    rows = [it for it in flight.batch.rows if it[0] < REMOVE]
+    return len({*names, *(it[2] for it in rows), *(it[3] for it in rows)}), len({*kinds, *(it[1] for it in rows)})

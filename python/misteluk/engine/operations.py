@@ -134,6 +134,10 @@ class Operations:
         """Whether an operation expires edges; then the batch asks for the used blocks too."""
         return EXPIRE in (self._columns.codes if self._columns is not None else map(itemgetter(0), self.rows))
 
+    def asked(self, used: int) -> int:
+        """How many free blocks the batch asks for, where so many are used."""
+        return self.size + (used if self.expires else 0)
+
     @property
     def text(self) -> bytes:
         """Their records, one line each."""

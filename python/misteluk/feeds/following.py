@@ -17,6 +17,7 @@ from .growing import DelimitedRows, Growing, Incoming, Opened, Rows, SnapRows
 from .surveys import Count, must_be_way
 from .opening import ReadAs, form_of, reads
 from ..engine.calls import Calls
+from ..engine.guard import noting
 from ..engine.operations import EXPIRY
 from .progress import Progress
 from .rejects import Bin, Lines, Rejected, Rejects
@@ -60,7 +61,8 @@ class Following(Iterator[Followed]):
         self._since = 0.0
         self._in = self._line = self._done = 0
         self._newest, self._has_expiry = -1, False
-        self._untaken: Deque[Followed] = deque()
+        # The step that was made and isn't given yet.
+        self._made: Deque[Followed] = deque()
         self._ending: Optional[Exception] = None
         self._is_stopped = self._is_done = False
         self._progress = Progress(f"following {self.name}", None, progress, "rows")
@@ -143,26 +145,23 @@ class Following(Iterator[Followed]):
         self._source.close()
         self._progress.end()
 
-    def __next__(self) -> Followed:
-        return self.step()
-
     def step(self, output: Optional[int] = None) -> Followed:
         """Waits for the next commit. Raises `BrokenPipeError` where the reader of an output that is watched has gone."""
-        while True:
+        while not self._made:
             if self._is_done:
                 raise StopIteration
             self._progress.step(self._in - self._progress.count)
-            made: Optional[Followed] = (self._calls.make(self._go_on, untaken=self._keep_untaken) if _is_interrupted() else
-                                        self._go_on())
-            if made is not None:
-                return made
-            if not self._is_done and self._source.wait(self._patience(), output):
+            if _is_interrupted():
+                self._calls.make(self._go_on)
+            else:
+                self._go_on()
+            if not (self._made or self._is_done) and self._source.wait(self._patience(), output):
                 raise BrokenPipeError
+        made, given = self._made[0], noting(self._made.popleft)
+        None in given
+        return made
 
-    def _keep_untaken(self, made: Optional[Followed]) -> None:
-        """Keeps what nobody took, as where the waiting was interrupted, for the next step."""
-        if made is not None:
-            self._untaken.append(made)
+    __next__ = step
 
     def _patience(self) -> Optional[float]:
         """How long the next commit may wait for more rows; `None` where there is none to wait."""
@@ -183,19 +182,18 @@ class Following(Iterator[Followed]):
             return True
         return time.monotonic() >= self._since + self._pace.every
 
-    def _go_on(self) -> Optional[Followed]:
-        """Reads what is there, or commits. Runs in the thread, so that nothing breaks it off."""
-        if self._untaken:
-            return self._untaken.popleft()
+    def _go_on(self) -> None:
+        """Reads what is there, or commits, where no step waits to be given. Runs in the thread, so that nothing breaks it off."""
+        if self._made:
+            return
         if not self._is_due():
             self._fill() if self._blocks else self._read()
         if self._is_due():
-            return self._commit()
-        if self._is_ending and not self._blocks and not self._lines:
+            self._made.append(self._commit())
+        elif self._is_ending and not self._blocks and not self._lines:
             if self._ending is not None:
                 raise self._ending
             self._is_done = True
-        return None
 
     def _read(self) -> None:
         """Reads what is there. What is wrong with it is told when all before it is in."""
@@ -265,8 +263,8 @@ class Following(Iterator[Followed]):
             self._ledger.pending.append((*EXPIRY, bound))
         pending = self.store.pending
         try:
-            receipt, told = self._ledger.commit(True, records.MOST_OPERATIONS)
-            self._ledger.taken.append(told)
+            receipt = self._ledger.commit(True, records.MOST_OPERATIONS)
+            self._ledger.taken.append(self._ledger.telling)
         except OperationsRefused:
             self._take_in()
             raise

@@ -48,6 +48,7 @@ class Outbox:
         self.ledger = self
         self.kinds: Dict[str, None] = {}
         self.rows: List[Row] = []
+        self.telling: Tuple[Commit, ...] = (NOTHING,)
         self.taken: List[Tuple[Commit, ...]] = []
         self._descriptor, self._names = descriptor, names
         self._kinds_sent = self._texts_sent = 0
@@ -67,10 +68,10 @@ class Outbox:
     def take_terms(self, terms: Terms) -> None:
         """Nothing: they were taken there."""
 
-    def commit(self, collect: bool, batch: int) -> Tuple[Commit, Tuple[Commit, ...]]:
+    def commit(self, collect: bool, batch: int) -> Commit:
         """Has what is pending go out with the step that it is of."""
         self._batch, self.rows = Operations(self.rows), []
-        return NOTHING, (NOTHING,)
+        return NOTHING
 
     def _head(self, following: Following) -> Dict[str, Any]:
         """How far the feed is in, and what was skipped."""
