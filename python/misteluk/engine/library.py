@@ -242,7 +242,7 @@ class LibraryEngine:
         try:
             version = self._hold(opening, place)
         except NoSeat:  # (the desk has 16: over its last version it begins anew, and those that are held need none there)
-            version = self._hold(self._begin_anew(opening, self._stat(opening)), place)
+            version = self._hold(self._begin_anew(opening), place)
         self._held[version.slot] = weakref.ref(version)
         return version
 
