@@ -82,10 +82,14 @@ class Batch(Owner):
                limit: Optional[int] = None) -> Tuple[Code, int]:
         """Appends operations in columns from a place on, up to a limit of the batch's own where one is given. Hands back the code
         and the place that the call tells."""
-        told = c_uint64(done)
         # (a column is never empty here: none may be at NULL)
         columns = [array.array(it, [op[place] for op in operations] or [0]) for place, it in enumerate("BIIIqQ")]
-        words = [it for each in columns for it in (at(each), len(operations))]
+        return self.append_columns(kinds, names, columns, len(operations), done, limit)
+
+    def append_columns(self, kinds: Sequence[bytes], names: Sequence[bytes], columns: "Sequence[array.array[int]]", count: int,
+                       done: int = 0, limit: Optional[int] = None) -> Tuple[Code, int]:
+        """The same of columns that stand ready, of which so many places count."""
+        told, words = c_uint64(done), [word for each in columns for word in (at(each), count)]
         call, own = (self.calls.batch_columns, []) if limit is None else (self.calls.batch_columns_within, [limit])
         code = call(self.handle, *own, *dictionary(kinds), *dictionary(names), *words, told)
         return Code(code), told.value

@@ -1,5 +1,4 @@
 """Desks under limits of their own: tiny ones, each of which refuses what is past it and leaves all as it was, and large ones."""
-import os
 import random
 import unittest
 from typing import Callable, List, Optional, Tuple
@@ -142,26 +141,6 @@ class Limits(unittest.TestCase):
         self.assertEqual(version.levels(view(), 65_530)[count - 1], count - 1 - 65_530)
         self.batch.insert(b"k", b"n0", b"another", 1, 1)
         self.refuse(desk, Code.NAMES_FULL, lambda: desk.apply(self.batch))
-
-    @unittest.skipUnless(os.environ.get("NAMES"), "by hand: NAMES=1048576 tools/test_library limits")
-    def test_a_ring_of_many_names(self) -> None:
-        """A ring of so many names: each is reached, in one part, with two neighbors."""
-        count = int(os.environ["NAMES"])
-        desk, names = self.open(count + 65_536, (count, 4, 2_000)), [b"n%d" % it for it in range(count)]
-        code, done, counts = desk.insert_columns(b"k", names, [(it, (it + 1) % count, 1, it) for it in range(count)])
-        self.assertEqual((code, done, counts.inserted, counts.version), (Code.OK, count, count, -(-count // 65_536)))
-        version = self.hold(desk)
-        self.assertEqual((version.size.vertices, version.size.edges), (count, count))
-        self.assertEqual(version.vertex(names[-1]), count - 1)
-        self.assertEqual(version.edge(0, count - 1, 0), (1, count - 1, count - 1))
-        self.assertEqual(version.levels(view(), count // 2)[count // 2 - 1], count - 1)
-        self.assertEqual((set(version.labels(view())), set(version.cores(view()))), ({0}, {2}))
-        self.assertEqual(set(version.degrees(view())), {(1, 1, 1)})
-        self.assertEqual(len(version.edges(view(), 100_000)), count)
-        self.batch.insert(b"k", b"n0", b"another", 1, 1)
-        self.refuse(desk, Code.NAMES_FULL, lambda: desk.apply(self.batch))
-        desk.rebase()
-        self.assertEqual((desk.stat().version, desk.stat().edges, desk.limits()), (0, count, (count, 4, 2_000)))
 
 
 if __name__ == "__main__":
