@@ -295,6 +295,15 @@ class Repository(Case):
         self.assertLessEqual(offered, declared)
         self.assertGreater(len(offered), 30)
 
+    def test_the_facade_has_the_names_of_its_page(self) -> None:
+        """What docs/LIBRARY.md says that the crate `misteluk` re-exports, which nobody generates, is what it does re-export."""
+        page = (TOP / "docs/LIBRARY.md").read_text(encoding="utf-8")
+        table = page.split("\n## What the crate re-exports\n")[1].split("\n## ")[0]
+        listed = re.findall(r"`(\w+)`", table)
+        facade = (TOP / "crates/misteluk/src/lib.rt").read_text(encoding="utf-8")
+        groups = re.findall(r"^pub use \w+::(?:\{([^}]*)\}|(\w+));", facade, re.M)
+        self.assertEqual(sorted(re.findall(r"\w+", " ".join(many or one for many, one in groups))), sorted(set(listed)))
+
 
 DEEDS = """<script>
     const seen = {};
