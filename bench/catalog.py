@@ -44,7 +44,7 @@ def debian_packages(needs: List[str]) -> str:
 def of_the_program() -> Iterator[Measurement]:
     rust, count = ("rustc",), ("valgrind",)
     plain = (*rust, *count)
-    yield Measurement("costs", "Has a script become more expensive than its kept figures? (`./check` asks this.)", 2, (), count)
+    yield Measurement("costs", "Do scripts over program and library cost what was kept? (`./check` asks this.)", 3, (), count)
     yield Measurement("compare", "How long do a load and each request take, compared with a plain store of maps?", 6,
                       (*rust, "/usr/bin/time"))
     yield Measurement("picture", "What do the figures of `compare` look like, drawn on a logarithmic scale?", 0.02)

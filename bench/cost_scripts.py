@@ -16,6 +16,12 @@ def asked(request: str, times: int) -> Lines:
     yield from [request] * times
 
 
+def over_a_tree(*records: str, times: int) -> Lines:
+    """A tree, and then these records again and again."""
+    yield from batches(inserted(tree(9_000)))
+    yield from itertools.chain.from_iterable(itertools.repeat(records, times))
+
+
 def single_edges() -> Lines:
     yield from batches(inserted(skewed(8_000, 2_000)))
     yield from batches(inserted(skewed(2_000, 2_000), 2), 1)
@@ -123,4 +129,9 @@ SCRIPTS: Dict[str, Callable[[], Lines]] = {
     "names found": names_found,
     "names that begin alike": names_that_begin_alike,
     "rebases": lambda: rebases(30),
+    "stat": lambda: over_a_tree("stat", times=20_000),
+    "sessions opened and closed": lambda: over_a_tree("open,0", "close,0", times=2_000),
+    "a skewed load by two workers": lambda: batches(inserted(skewed(40_000, 8_000))),
 }
+# How many workers run a script, where there isn't one.
+WORKERS = {"a skewed load by two workers": 2}

@@ -146,9 +146,9 @@ def number_in(pattern: str, text: str) -> int:
     return int(found.group(1).replace(",", ""))
 
 
-def instructions(words: Words, given: Script) -> int:
+def instructions(words: Words, given: Script, *options: str) -> int:
     """Instructions by callgrind: they don't change with what else the machine does."""
-    return number_in(r"Collected : (\d+)", valgrind("callgrind", (), words, given))
+    return number_in(r"Collected : (\d+)", valgrind("callgrind", options, words, given))
 
 
 def misses(words: Words, given: Script, model: Words = LINES) -> int:

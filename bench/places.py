@@ -2,6 +2,7 @@
 from __future__ import annotations
 
 import argparse
+import filecmp
 import functools
 import os
 import pathlib
@@ -23,6 +24,12 @@ def proved(*words: str) -> str:
     if found.returncode:
         stop(f"{found.stderr.strip()} (or name another by MISTELUK_{'LIBRARY' if words else 'PROGRAM'})")
     return found.stdout.strip()
+
+
+def is_proved(file: str) -> bool:
+    """Whether a program is the proved one of the sources as they are."""
+    found = subprocess.run([str(TOP / "prove"), "--where"], stdout=subprocess.PIPE, stderr=subprocess.DEVNULL, text=True)
+    return found.returncode == 0 and filecmp.cmp(found.stdout.strip(), file, shallow=False)
 
 
 def program(named: Optional[str] = None) -> str:

@@ -1,6 +1,6 @@
 #!/usr/bin/env python3
 """Tests of the measurements in bench/: that each of the catalog is there and typed, and README says the same; the module for
-measuring with a stand-in for the program; and that a cost which has grown fails."""
+measuring with a stand-in for the program."""
 from __future__ import annotations
 
 import argparse
@@ -31,7 +31,7 @@ from bench import measuring, needs, rattle, readme, scripts, soaking, tables  # 
 from bench.calls import Code, Refused  # noqa: E402
 from bench.catalog import CATALOG, Measurement  # noqa: E402
 from bench.checks import Checks  # noqa: E402
-from bench.measurements import costs, quiet  # noqa: E402
+from bench.measurements import quiet  # noqa: E402
 
 # A measurement is a module of fewer lines than these.
 LINES = 120
@@ -182,43 +182,6 @@ class Measuring(unittest.TestCase):
         self.assertLess(measuring.peak([str(self.program)], self.script("commit")), len(held))
         taking = [sys.executable, "-c", "it = bytearray(1 << 26); it[::4096] = b'x' * len(it[::4096])"]
         self.assertGreater(measuring.peak(taking, self.script()), 1 << 26)
-
-    @unittest.skipUnless(shutil.which("valgrind"), "valgrind is not there")
-    def test_a_cost_that_grew(self) -> None:
-        """Kept figures pass; planted ones, of which the program takes more than a tenth more, don't."""
-        kept = self.room / "kept.txt"
-        words = ["run", "costs", "rebases", "--program", str(self.program), "--kept", str(kept)]
-        self.assertEqual(bench(*words, "--keep").returncode, 0)
-        done = bench(*words)
-        self.assertEqual((done.returncode, done.stdout.splitlines()[-1]), (0, "1 passed, 0 failed"), done.stdout)
-        count = costs.kept(kept)["rebases"]["instructions"]
-        kept.write_text(kept.read_text().replace(str(count), str(count * 8 // 10)))
-        done = bench(*words)
-        self.assertEqual((done.returncode, done.stdout.splitlines()[-1]), (1, "0 passed, 1 failed"), done.stdout)
-        self.assertIn("DEARER  rebases: ", done.stdout)
-
-    def test_costs_without_valgrind(self) -> None:
-        """Memory and writes are compared all the same; and nothing is kept, since figures would be missing."""
-        kept, words = self.room / "kept.txt", ["run", "costs", "empty commits", "--program", str(self.program)]
-        for figures, status in (("1 9000000 90000", 0), ("1 9000000 10000", 1), ("1 1 90000", 1)):
-            kept.write_text(f"{figures} empty commits\n")
-            done = bench(*words, "--kept", str(kept), PATH=str(self.room))
-            self.assertEqual(done.returncode, status, done.stdout + done.stderr)
-            self.assertIn("valgrind isn't here", done.stdout)
-        before = kept.read_text()
-        self.assertIn("without valgrind", bench(*words, "--keep", "--kept", str(kept), PATH=str(self.room)).stderr)
-        self.assertEqual(kept.read_text(), before)
-
-    def test_each_figure_counts(self) -> None:
-        before = {"instructions": 10_000_000, "kilobytes": 9_000, "writes": 100}
-        for what, count in before.items():
-            for more, is_kept in ((1.09, True), (1.11, False)):
-                with redirect_stdout(io.StringIO()):
-                    found: Dict[str, int] = {**before, what: int(count * more)}
-                    self.assertEqual(costs.compared("a script", found, before), is_kept, (what, more))
-
-    def test_kept_scripts(self) -> None:
-        self.assertEqual(list(costs.kept(costs.KEPT)), list(costs.SCRIPTS))
 
     def test_what_ends_badly(self) -> None:
         """Of the measurements that run one after another, one that fails, waits, or has not what it needs is reported."""

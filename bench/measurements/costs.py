@@ -1,13 +1,17 @@
-"""Compares what some twenty scripts cost `stinger run` with the figures kept in bench/costs.txt: its instructions, by callgrind;
-its peak resident memory; and how often it writes. No clause of a proof sees any of these, so that a cache that is never hit, a
-store that is never given back or an answer in small pieces would pass for right.
+"""Compares what some forty scripts cost with the figures kept in bench/costs.txt: instructions, by callgrind; peak memory; how
+often `stinger run` writes. No clause of a proof sees any of these, so that a cache that is never hit, a store that is never given
+back or an answer in small pieces would pass for right. Scripts of records go to `stinger run`, those of calls to the library.
 
-    python3 -m bench run costs             compares, and ends in status 1 where a figure is over 1.1 of the one that is kept
+    python3 -m bench run costs             compares, and ends in status 1 where a figure is too far from the kept one
     python3 -m bench run costs --keep      keeps today's figures, where a change is meant: its commit says why
     python3 -m bench run costs NAME ..     compares these scripts alone
 
-One worker runs each script, since how two share the work differs from run to run. `./check` calls this over the proved program.
-Without valgrind the instructions are left out, and nothing is kept.
+Instructions may be 1.02 of the kept ones, memory and writes 1.1 (DEARER). What has fallen as far is kept again (CHEAPER): else it
+could rise as far again, unseen. What is in use after a script of calls was repeated may be 256 KiB more (LEAKS).
+
+One worker runs each script but one, since how two share the work differs from run to run. The program is the proved one, of which
+the figures are: a compiled one takes others, and is refused. Made with another glibc, valgrind or kit, figures are others too;
+that is said first, and only what is more than a tenth above is refused then. Nothing is kept without valgrind and rt.
 """
 from __future__ import annotations
 
@@ -16,21 +20,19 @@ import concurrent.futures
 import functools
 import pathlib
 import subprocess
-from typing import BinaryIO, Dict, List, cast
+from typing import BinaryIO, Callable, Dict, List, cast
 
 from bench import scripts
 from bench.catalog import is_here
-from bench.cost_scripts import SCRIPTS
+from bench.cost_calls import CALLS, built, calls_cost, compiled_library
+from bench.cost_scripts import SCRIPTS, WORKERS
+from bench.kept_costs import Figures, Kept, Made, compare, made_now
 from bench.measuring import instructions, of_process, side_by_side, stop
-from bench.places import TOP, stinger_run, takes_program
+from bench.places import TOP, program, stinger_run, takes_program
 
 KEPT = TOP / "bench/costs.txt"
-MOST = 1.1
-# Below these a figure says little: a page more, or a line that another library's version writes.
-LEAST = {"instructions": 1_000_000, "kilobytes": 1_024, "writes": 10}
-HEAD = ["# What these scripts cost stinger run: instructions, peak kilobytes, writes.",
-        "# `python3 -m bench run costs --keep` writes this."]
-Figures = Dict[str, int]
+LIBRARY = "library: "
+NAMES = [*SCRIPTS, *(f"{LIBRARY}{it}" for it in CALLS)]
 
 
 def options(parser: argparse.ArgumentParser) -> None:
@@ -52,55 +54,58 @@ def memory_and_writes(command: List[str], script: bytes) -> Figures:
         into, out = cast(BinaryIO, process.stdin), cast(BinaryIO, process.stdout)
         with concurrent.futures.ThreadPoolExecutor(1) as pool:
             fed = pool.submit(feed, into, script + b"stat\n")
-            while (line := out.readline()) and not line.startswith(b"stat "):
-                pass
+            left = script.count(b"stat\n") + 1
+            while left and (line := out.readline()):
+                left -= line.startswith(b"stat ")
             fed.result()
             found = {"kilobytes": of_process("VmHWM", process.pid), "writes": of_process("syscw", process.pid, "io")}
         into.close()
         out.read()
-    if process.returncode or not line:
+    if process.returncode or left:
         stop(f"{' '.join(command)} ended early, in status {process.returncode}")
     return found
 
 
-def costs(command: List[str], room: pathlib.Path, name: str) -> Figures:
-    script = scripts.kept(room / name, SCRIPTS[name]())
+def costs(words: argparse.Namespace, room: pathlib.Path, name: str) -> Figures:
+    command, script = stinger_run(words, WORKERS.get(name, 1)), scripts.kept(room / name, SCRIPTS[name]())
     counted = {"instructions": instructions(command, script)} if is_here("valgrind") else {}
     return {**counted, **memory_and_writes(command, script.read_bytes())}
 
 
-def kept(file: pathlib.Path) -> Dict[str, Figures]:
-    """The figures of the file: a line each script, its name last."""
-    rows = [line.split(maxsplit=3) for line in file.read_text().splitlines() if line and not line.startswith("#")]
-    return {row[3]: dict(zip(LEAST, map(int, row[:3]))) for row in rows}
+def counted(words: argparse.Namespace, room: pathlib.Path, names: List[str]) -> Dict[str, Figures]:
+    """What each script costs."""
+    works: Dict[str, Callable[[], Figures]] = {it: functools.partial(costs, words, room, it) for it in names if it in SCRIPTS}
+    calls = [it for it in names if it not in works]
+    if calls and not is_here("rt"):
+        print("costs: the scripts of calls are passed over, since rt isn't here, which makes their program")
+    elif calls:
+        made = built(room, compiled_library())
+        works.update({it: functools.partial(calls_cost, made, it[len(LIBRARY):]) for it in calls})
+    return side_by_side(works)
 
 
-def keep(file: pathlib.Path, found: Dict[str, Figures]) -> None:
-    rows = ["{:>13} {:>9} {:>7}  {}".format(*row.values(), name) for name, row in found.items()]
-    file.write_text("".join(f"{line}\n" for line in HEAD + rows))
-
-
-def compared(name: str, found: Figures, before: Figures) -> bool:
-    """Shows each figure next to the kept one, and returns whether none is too large."""
-    is_dearer = {what: count > MOST * max(before[what], LEAST[what]) for what, count in found.items()}
-    told = ", ".join(f"{count:,} {what} ({count / max(before[what], 1):.3f})" for what, count in found.items())
-    print(f"{'DEARER' if any(is_dearer.values()) else 'ok':>6}  {name}: {told}", flush=True)
-    return not any(is_dearer.values())
+def refuse(words: argparse.Namespace, now: Made) -> None:
+    """Stops where figures would be compared with others, or kept as what they aren't."""
+    wanted = ("proved" if words.kept == KEPT else now.program) if words.keep else Kept.read(words.kept).made.program
+    if wanted != now.program:
+        this, other = ("the proved" if it == "proved" else "an unproved" for it in (now.program, wanted))
+        stop(f"{program(words.program)} is {this} program, and {words.kept} has figures of {other} one: run ./prove, which makes "
+             "the proved one, or keep the figures of another in a file of their own (--kept FILE --keep)")
 
 
 def measure(words: argparse.Namespace, room: pathlib.Path) -> int:
-    if unknown := set(words.names) - set(SCRIPTS):
-        stop(f"no script {', '.join(sorted(unknown))}; there are {', '.join(SCRIPTS)}")
-    if not is_here("valgrind"):
-        if words.keep:
-            stop("nothing is kept without valgrind, which counts the instructions")
+    if unknown := set(words.names) - set(NAMES):
+        stop(f"no script {', '.join(sorted(unknown))}; there are {', '.join(NAMES)}")
+    now = made_now(program(words.program))
+    refuse(words, now)
+    names = words.names or NAMES
+    missing = [it for it in ("valgrind", "rt") if not is_here(it)]
+    if missing and words.keep:
+        stop(f"nothing is kept without {' and '.join(missing)}")
+    if "valgrind" in missing:
         print("costs: no instructions are compared, since valgrind isn't here")
-    command, names = stinger_run(words), words.names or list(SCRIPTS)
-    found = side_by_side({name: functools.partial(costs, command, room, name) for name in names})
+    found = counted(words, room, names)
     if words.keep:
-        keep(words.kept, found)
+        Kept(now, found).write(words.kept)
         return 0
-    before = kept(words.kept)
-    passed = [compared(name, found[name], before[name]) for name in names]
-    print(f"{sum(passed)} passed, {len(passed) - sum(passed)} failed")
-    return 0 if all(passed) else 1
+    return compare(found, Kept.read(words.kept), now, loose=WORKERS)

@@ -1,5 +1,5 @@
-"""What a store in process gives back meanwhile, and not only as it is closed: memory of sessions that were read and closed, handles
-that threads take at once, and the versions that a collection counts as held."""
+"""What a store in process gives back meanwhile, and not only as it is closed: memory of sessions that were closed, handles that
+threads take at once, and the versions that a collection counts as held."""
 import pathlib
 import re
 import threading
