@@ -31,7 +31,7 @@ extern "C" {
 #endif
 
 /* The number of this interface. It grows with each change that an older caller could not take. */
-#define MISTELUK_INTERFACE 1
+#define MISTELUK_INTERFACE 2
 
 enum {
     MISTELUK_OK = 0,
@@ -49,11 +49,11 @@ enum {
     MISTELUK_NAMES_FULL = 12,   /* the batch would leave more vertices than the desk's limits allow */
     MISTELUK_KINDS_FULL = 13,   /* the batch would leave more kinds than the desk's limits allow */
     MISTELUK_BLOCKS_FULL = 14,  /* fewer blocks are free than the batch asks for */
-    MISTELUK_NO_SEAT = 15,      /* 16 versions are held, or what is to be released isn't held */
+    MISTELUK_NO_SEAT = 15,      /* 16 versions are held, or what is to be released isn't held by this desk */
     MISTELUK_NO_VERTEX = 16,
     MISTELUK_NO_KIND = 17,
     MISTELUK_NO_EDGE = 18,
-    MISTELUK_BAD_LIMITS = 19    /* limits past their walls, which stand beside misteluk_limits and MISTELUK_MOST_OPERATIONS */
+    MISTELUK_BAD_LIMITS = 19    /* limits of 0 or past their walls, which stand beside misteluk_limits and MISTELUK_MOST_OPERATIONS */
 };
 
 /* What stands for "any kind" where a kind's number is asked for, and for "not reached" among levels. */
@@ -74,10 +74,10 @@ typedef struct { void *at; } misteluk_batch;
 typedef struct { void *at; } misteluk_version;
 
 /* How many vertices and kinds the graph of a desk may have, and how many batches the desk accepts until it is rebased. A desk
- * that is opened without limits of its own has 65,536, 64 and 65,536. No limits pass these walls: 67,108,863 vertices, 64 kinds,
- * and vertices times kinds at most 8,388,606, or more where weights are below 2^40. So a sum of weights is below 2^63. A desk of
- * UINT32_MAX batches keeps none of those that it has applied, so that a stream of updates to a graph of constant size takes level
- * memory. */
+ * that is opened without limits of its own has 65,536, 64 and 65,536. Each limit is 1 or more, and none passes these walls:
+ * 67,108,863 vertices, 64 kinds, and vertices times kinds at most 8,388,606, or more where weights are below 2^40. So a sum of
+ * weights is below 2^63. A desk of UINT32_MAX batches keeps none of those that it has applied, so that a stream of updates to a
+ * graph of constant size takes level memory. */
 typedef struct {
     uint32_t names, kinds, batches;
 } misteluk_limits;
@@ -99,9 +99,10 @@ typedef struct {
     uint64_t version, vertices, kinds, edges, name_bytes, kind_bytes;
 } misteluk_size;
 
-/* Which version is held, for its release. */
+/* Which version is held, for its release, and which desk holds it, by a random number that the desk has from when it is opened
+ * until it ends. */
 typedef struct {
-    uint64_t opening, number;
+    uint64_t desk, opening, number;
 } misteluk_hold;
 
 typedef struct {
@@ -145,8 +146,9 @@ uint32_t misteluk_batch_expire(misteluk_batch *batch, uint64_t time);
  * in another: the name of number n are the bytes of its text from ends[n - 1], or from 0, to below ends[n]. Names that no
  * operation has aren't looked at, nor are a removal's weight and time, nor of an expiry anything but its time. Where an operation
  * is refused, the batch is as it was, with none of the call's operations, and `*done` is the place of the first that is refused.
- * NO_HANDLE; BAD_LENGTH where the columns differ, and `*done` is as it was; of an operation BAD_NUMBER, also of a sort that there
- * is none of, BAD_NAME, BAD_WEIGHT, BAD_TIME in this order; or MEMORY. */
+ * NO_HANDLE; BAD_LENGTH where the columns differ; of an operation BAD_NUMBER, also of a sort that there is none of, BAD_NAME,
+ * BAD_WEIGHT, BAD_TIME in this order; or MEMORY. After NO_HANDLE, BAD_LENGTH and MEMORY `*done` is as it was, so that the same
+ * call can be made again. */
 uint32_t misteluk_batch_columns(misteluk_batch *batch, const char *kind_text, size_t kind_text_length, const uint64_t *kind_ends,
     size_t kind_ends_length, const char *text, size_t text_length, const uint64_t *ends, size_t ends_length,
     const uint8_t *operations, size_t operations_length, const uint32_t *kinds, size_t kinds_length, const uint32_t *sources,
@@ -162,12 +164,13 @@ uint32_t misteluk_batch_columns_within(misteluk_batch *batch, uint32_t limit, co
 
 /* The desk */
 
-/* Opens a desk without edges, with so many blocks, each for 32 edges of one source and kind. BAD_BLOCKS, HELD_ALREADY, MEMORY. */
+/* Opens a desk without edges, with so many blocks, each for 32 edges of one source and kind. BAD_BLOCKS, HELD_ALREADY, or MEMORY,
+ * also where the system has no random number to give (getentropy). */
 uint32_t misteluk_desk_new(uint32_t blocks, misteluk_desk *out);
 /* The same under limits of one's own, which the desk keeps, also behind a rebase. A block takes memory when it is first used.
  * BAD_LIMITS, BAD_BLOCKS, HELD_ALREADY, MEMORY. */
 uint32_t misteluk_desk_new_within(const misteluk_limits *limits, uint32_t blocks, misteluk_desk *out);
-/* The same with a limit of weights, at most 2^40. Vertices times kinds, and one more, times that limit is below 2^63. An operation
+/* The same with a limit of weights, 1 to 2^40. Vertices times kinds, and one more, times that limit is below 2^63. An operation
  * whose weight or amount is past it, or the sum that it would leave, is counted as overflowed: it changes nothing but that its
  * names are there. BAD_LIMITS, BAD_BLOCKS, HELD_ALREADY, MEMORY. */
 uint32_t misteluk_desk_new_within_weight(const misteluk_limits *limits, uint64_t weight, uint32_t blocks, misteluk_desk *out);
@@ -198,8 +201,9 @@ uint32_t misteluk_desk_stat(misteluk_desk *desk, misteluk_stat *out);
  * at once, each as often as one likes. NO_HANDLE, HELD_ALREADY, NO_SEAT, MEMORY. */
 uint32_t misteluk_desk_hold(misteluk_desk *desk, misteluk_version *version, misteluk_hold *hold);
 /* Takes one hold back, so that a collection may free what the version alone needs. The version handle is freed on its own, before
- * or after. The hold of a former opening needs nothing more, and is OK. NO_HANDLE, NO_SEAT where it isn't held. */
-uint32_t misteluk_desk_release(misteluk_desk *desk, misteluk_hold hold);
+ * or after. The hold of a former opening of this desk needs nothing more, and is OK. A hold that another desk gave, also one that
+ * has ended, is refused (but for a chance of one in 2^64), and nothing is released. NO_HANDLE, NO_SEAT where it isn't held. */
+uint32_t misteluk_desk_release(misteluk_desk *desk, const misteluk_hold *hold);
 /* Opens the desk anew over what the last version holds: its number is 0, no batch is kept, nothing is held or retired. Versions
  * that were held answer on. NO_HANDLE, MEMORY. */
 uint32_t misteluk_desk_rebase(misteluk_desk *desk);

@@ -60,10 +60,10 @@ static uint32_t run(misteluk_desk *desk, misteluk_batch *batch, misteluk_version
     TRY(ask(last));
     TRY(misteluk_desk_collect(desk, &freed));
     printf("freed while it is held: %d\n", (int)freed);
-    TRY(misteluk_desk_release(desk, hold));
+    TRY(misteluk_desk_release(desk, &hold));
     TRY(misteluk_desk_collect(desk, &freed));
     printf("freed after its release: %d\n", (int)freed);
-    return misteluk_desk_release(desk, again);
+    return misteluk_desk_release(desk, &again);
 }
 
 int main(void)

@@ -58,7 +58,7 @@ static void insert_columns(void)
 static void collect(void) { code = misteluk_desk_collect(&desk, &number); }
 static void stat(void) { code = misteluk_desk_stat(&desk, &stat_told); }
 static void hold_last(void) { code = misteluk_desk_hold(&desk, &version, &hold); }
-static void release(void) { code = misteluk_desk_release(&desk, hold); }
+static void release(void) { code = misteluk_desk_release(&desk, &hold); }
 static void rebase(void) { code = misteluk_desk_rebase(&desk); }
 static void clone_it(void) { code = misteluk_version_clone(&version, &copy); }
 static void size_of(void) { code = misteluk_version_size(&version, &size); }

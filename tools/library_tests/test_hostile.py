@@ -85,6 +85,7 @@ class Hostile(unittest.TestCase):
         ]
         self.assertEqual(codes, [Code.NO_HANDLE] * len(codes))
         self.assertEqual([desk.at, batch.at, none.at], [None] * 3)
+        self.assertEqual([number.value, few.value, *one, *fields(counts)], [0] * 18)
         # And these may be given: nothing is there to end.
         it.batch_free(batch), it.desk_free(desk), it.version_free(none)
         # A handle that is to be made holds something already, and holds it still.
@@ -112,14 +113,14 @@ class Hostile(unittest.TestCase):
 
     def test_limits_past_their_walls(self) -> None:
         desk, most = interface.Desk(), (1 << 32) - 1
-        for limits in ((1 << 26, 0, 0), (most, 0, 0), (1, 65, 1), (0, most, 0), (131_073, 64, 1), (8_388_607, 1, 1),
-                       (1 << 25, 1 << 7, 1), (most, most, most)):
+        for limits in ((1 << 26, 1, 1), (most, 1, 1), (1, 65, 1), (1, most, 1), (131_073, 64, 1), (8_388_607, 1, 1),
+                       (1 << 25, 1 << 7, 1), (most, most, most), (0, 1, 1), (1, 0, 1), (1, 1, 0), (0, 0, 0), (most >> 6, 0, 1)):
             for blocks in (0, 16):
                 self.refuses(Code.BAD_LIMITS, self.library.desk_new_within(interface.Limits(*limits), blocks, desk))
         for blocks in (0, 15, 4_293_918_720, most):
             self.refuses(Code.BAD_BLOCKS, self.library.desk_new_within(interface.Limits(1, 1, 1), blocks, desk))
         self.assertIsNone(desk.at)
-        for limits in ((67_108_863, 0, most), (8_388_606, 1, 0), (131_071, 64, 0), (0, 0, 0)):
+        for limits in ((8_388_606, 1, most), (131_071, 64, 1), (1, 1, 1)):
             opened = Desk(library(), 65_537, limits)
             self.assertEqual(opened.limits(), limits)
             opened.free()
@@ -127,12 +128,13 @@ class Hostile(unittest.TestCase):
     def test_limits_of_weights(self) -> None:
         """What a sum of weights has room for: one for each vertex of each kind, and one more."""
         desk, most = interface.Desk(), 1 << 40
-        for limits, weight in (((0, 0, 0), most + 1), ((8_388_607, 1, 1), most), ((67_108_863, 1, 1), 1 << 37),
-                               ((67_108_863, 64, 1), 2_147_483_680), ((67_108_864, 1, 1), 1), ((1, 65, 1), 1)):
+        for limits, weight in (((1, 1, 1), most + 1), ((8_388_607, 1, 1), most), ((67_108_863, 1, 1), 1 << 37),
+                               ((67_108_863, 64, 1), 2_147_483_680), ((67_108_864, 1, 1), 1), ((1, 65, 1), 1), ((1, 1, 1), 0),
+                               ((0, 1, 1), 1), ((1, 0, 1), 1), ((1, 1, 0), 1)):
             self.refuses(Code.BAD_LIMITS, self.library.desk_new_within_weight(interface.Limits(*limits), weight, 16, desk))
         self.refuses(Code.BAD_BLOCKS, self.library.desk_new_within_weight(interface.Limits(1, 1, 1), 1, 15, desk))
         self.assertIsNone(desk.at)
-        for limits, weight in (((0, 0, 0), 0), ((8_388_606, 1, 1), most), ((67_108_863, 1, 1), (1 << 37) - 1),
+        for limits, weight in (((1, 1, 1), 1), ((8_388_606, 1, 1), most), ((67_108_863, 1, 1), (1 << 37) - 1),
                                ((67_108_863, 64, 1), 2_147_483_679)):
             opened = Desk(library(), 16, limits, weight)
             self.assertEqual((opened.limits(), opened.weight()), (limits, weight))
@@ -301,8 +303,44 @@ class Hostile(unittest.TestCase):
             self.refuses(Code.OK, call(self.held.handle, count, *words))
 
     def test_holds_that_nobody_has(self) -> None:
+        hold = self.held.hold
+        assert hold is not None
         for opening, number in ((0, 0), (0, 2), (0, FULL), (1, 1), (FULL, 1)):
-            self.refuses(Code.NO_SEAT, self.library.desk_release(self.desk.handle, interface.Hold(opening, number)))
+            other = interface.Hold(hold.desk, opening, number)
+            self.refuses(Code.NO_SEAT, self.library.desk_release(self.desk.handle, other))
+        for desk in (0, hold.desk ^ 1, hold.desk ^ 1 << 63, FULL - hold.desk):
+            other = interface.Hold(desk, hold.opening, hold.number)
+            self.refuses(Code.NO_SEAT, self.library.desk_release(self.desk.handle, other))
+
+    def test_holds_of_other_desks(self) -> None:
+        """A hold is its own desk's alone: of one that is open, one that began anew, one that ended, where another lies now."""
+        replaced, others = (b"k", b"a", b"b", 9, 9), [Desk(library(), 32) for _ in range(3)]
+        for it in others:
+            self.batch.free()
+            self.batch = Batch(library())
+            self.batch.insert(*replaced)
+            it.apply(self.batch)
+        held = [it.hold() for it in others]
+        others[1].rebase()
+        others[2].free()
+        mine = Desk(library(), 32)
+        for weight in (1, 2):
+            self.batch.insert(b"k", b"a", b"b", weight, 9)
+            if weight == 2:
+                kept = mine.hold()
+            mine.apply(self.batch)
+        for version in held:
+            assert version.hold is not None and kept.hold is not None
+            self.assertEqual(fields(version.hold)[1:], fields(kept.hold)[1:])
+            self.refuses(Code.NO_SEAT, self.library.desk_release(mine.handle, version.hold))
+        self.assertEqual(mine.collect(), 0)
+        self.refuses(Code.OK, self.library.desk_release(others[0].handle, held[0].hold))
+        self.refuses(Code.OK, self.library.desk_release(others[1].handle, held[1].hold))
+        mine.release(kept)
+        self.assertEqual(mine.collect(), 1)
+        self.batch.insert(b"k", b"a", b"d", 4, 8)
+        for owner in (*held, mine, *others[:2]):
+            owner.free()
 
 
 if __name__ == "__main__":

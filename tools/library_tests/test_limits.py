@@ -91,18 +91,21 @@ class Limits(unittest.TestCase):
         self.assertEqual(version.names(), names)
         self.assertEqual([it[:4] for it in version.edges(view(), 8)], [(0, 0, 1, 10), (0, 1, 2, -10)])
 
-    def test_nothing_is_allowed(self) -> None:
-        desk = self.open(16, (0, 0, 0))
-        self.refuse(desk, Code.BATCHES_FULL, lambda: desk.apply(self.batch))
-        desk = self.open(16, (0, 0, 1))
-        self.batch.insert(b"k", b"a", b"a", 1, 1)
+    def test_one_of_each_is_allowed(self) -> None:
+        desk = self.open(16, (1, 1, 1), 1)
+        self.batch.insert(b"k", b"a", b"b", 1, 1)
         self.refuse(desk, Code.NAMES_FULL, lambda: desk.apply(self.batch))
-        desk = self.open(16, (1, 0, 1))
+        self.batch.free()
+        self.batch = Batch(library())
         self.batch.insert(b"k", b"a", b"a", 1, 1)
+        self.batch.insert(b"m", b"a", b"a", 1, 1)
         self.refuse(desk, Code.KINDS_FULL, lambda: desk.apply(self.batch))
         self.batch.free()
         self.batch = Batch(library())
-        self.assertEqual(fields(desk.apply(self.batch)), (1, 0, 0, 0, 0, 0, 0))
+        self.batch.insert(b"k", b"a", b"a", 1, 1)
+        self.batch.insert(b"k", b"a", b"a", 2, 1)
+        self.assertEqual(fields(desk.apply(self.batch)), (1, 1, 0, 0, 0, 1, 0))
+        self.refuse(desk, Code.BATCHES_FULL, lambda: desk.apply(self.batch))
 
     def test_the_standard_limits_are_those_of_no_limits(self) -> None:
         self.assertEqual(Desk(library(), 16).limits(), (65_536, 64, 65_536))

@@ -1,6 +1,7 @@
 """Each request for memory of each call refused in turn. A call either does what it does otherwise, or its code is MEMORY and all
 that can be read is as it was before."""
 import ctypes
+import itertools
 import os
 import pathlib
 import subprocess
@@ -110,7 +111,7 @@ CALLS: "dict[str, Callable[[State], object]]" = {
 def append(batch: Batch, limit: Optional[int] = None) -> object:
     rows: List[Operation] = [(INSERT, 0, 0, 1, 5, 5), (ADD, 1, 1, 2, 6, 6), (REMOVE, 0, 0, 1, 0, 0), (EXPIRE, 0, 0, 0, 0, 7)]
     code, done = batch.append([b"q", b"k"], [b"a", b"new", b"names"], rows, limit=limit)
-    assert done == 4 or code != Code.OK
+    assert done == (4 if code == Code.OK else 0)
     must(code)
     return len(batch)
 
@@ -185,6 +186,35 @@ class Memory(unittest.TestCase):
         called = {name.partition(" ")[0] for name in CALLS}
         ends = {name for name in interface.FUNCTIONS if name.endswith("_free")}
         self.assertEqual(set(interface.FUNCTIONS) - called - ends, {"interface"})
+
+    def test_columns_that_were_refused_go_in_by_the_same_call(self) -> None:
+        """Operations in columns from the third place on, in a batch with operations or none: where a request is refused the place
+        stays, and the call made again leaves what it leaves where none is."""
+        rows: List[Operation] = [(ADD, 0, it % 3, (it + 1) % 3, 1 << it, it) for it in range(40)]
+        refused, found = 0, set()
+        for begun, limit, place in itertools.product((0, 2), (None, 65_536), range(1, 90)):
+            with self.subTest(begun=begun, limit=limit, place=place):
+                desk, batch = Desk(self.failing.library, 64), Batch(self.failing.library)
+                for edge in FIRST[:begun]:
+                    batch.insert(*edge)
+                self.failing.refuse_calls(place, place)
+                code, done = batch.append([b"k"], [b"a", b"b", b"c"], rows, 2, limit)
+                self.failing.refuse_calls(0, 0)
+                if code != Code.OK:
+                    self.assertEqual((code, done, len(batch)), (Code.MEMORY, 2, begun))
+                    code, done = batch.append([b"k"], [b"a", b"b", b"c"], rows, done, limit)
+                    refused += 1
+                self.assertEqual((code, done, len(batch)), (Code.OK, 40, begun + 38))
+                desk.apply(batch)
+                version = desk.hold()
+                found.add((begun, tuple(version.edges(view(), 8))))
+                for owner in (version, batch, desk):
+                    owner.free()
+        sums = [sum(1 << it for it in range(2, 40) if it % 3 == source) for source in range(3)]
+        self.assertEqual(found, {
+            (0, ((0, 0, 1, sums[2], 2, 38), (0, 1, 2, sums[0], 3, 39), (0, 2, 0, sums[1], 4, 37))),
+            (2, ((0, 0, 1, sums[0] + 1, 5, 39), (0, 1, 2, sums[1] + 2, 6, 37), (0, 2, 0, sums[2], 2, 38)))})
+        self.assertGreater(refused, 100)
 
     def test_a_load_of_several_batches_keeps_those_that_are_in(self) -> None:
         edges = [(it % 3, (it + 1) % 3, it, it) for it in range(9_000)]

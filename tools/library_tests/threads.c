@@ -78,7 +78,7 @@ int main(void)
     }
     for (int it = 0; it < THREADS; it++)
         pthread_create(&threads[it], NULL, ask, &askers[it]);
-    must(misteluk_desk_release(&desk, hold));
+    must(misteluk_desk_release(&desk, &hold));
     for (uint32_t it = 0; it < 2 * ROUNDS; it++)
         feed(&desk, THREADS + it);
     for (int it = 0; it < THREADS; it++) {

@@ -1,9 +1,11 @@
 -- Operations of any sort, whose kinds and vertices are numbers in dictionaries of names.
-use Rattle.std.specs.Prelude.{◌≡◌, ◌≤◌, ◌<◌, ◌&&◌, ◌==◌, ◌+◌, ◌-◌, ◌++◌, ℕ, ℤ, pos, min, List, length, true, false}
+use Rattle.std.specs.Prelude.{◌≡◌, ◌≢◌, ◌≤◌, ◌<◌, ◌&&◌, ◌==◌, ◌+◌, ◌-◌, ◌++◌, ℕ, ℤ, pos, min, List, length, true, false}
 use Rattle.std.specs.Prelude.{Bool, if◌then◌else◌, slice_index_or, Option, Some, None, Err}
 use Rattle.graph_types.specs.{Valid.IsBatch, declared.batches.NamedOp.NamedOp}
 use Rattle.graph_types.specs.declared.batches.NamedOp.TheVariants.{Insert, Incr, Remove, Expire}
+use Rattle.graph_types.specs.declared.batches.PushError.TheVariants.{OutOfMemory as MemoryRanOut}
 use Rattle.batch_columns.specs.declared.{columns.InsertError.InsertError, operations.Operations.Operations}
+use Rattle.batch_columns.specs.declared.columns.InsertError.TheVariants.{Refused as InsertRefused}
 use Rattle.batch_columns.specs.declared.operations.OperationsError.{OperationsError}
 use Rattle.batch_columns.specs.declared.operations.OperationsError.TheVariants.{BadLength, Refused, OutOfMemory}
 use Rattle.batch_columns.specs.Dictionaries.{in_order, name_in, IsInserted}
@@ -83,7 +85,7 @@ pub record IsExtended (limit : ℕ) (t : OperationTable) (from : ℕ) (old : Lis
   pub are : operations_from t from (done - from) ≡ Some ops
   pub new_is : new ≡ old ++ ops
 
--- of the operations that would be in, the one at this place is the first that is refused
+-- of the operations that would be in, the one at this place is the first that is refused, and not because memory ran out
 pub record IsFirstRefused (limit : ℕ) (t : OperationTable) (from : ℕ) (old : List NamedOp) (place : ℕ) (error : InsertError)
     : Type 0 where
   pub alike : are_alike t ≡ true
@@ -93,7 +95,9 @@ pub record IsFirstRefused (limit : ℕ) (t : OperationTable) (from : ℕ) (old :
   pub before : operations_from t from (place - from) ≡ Some ops
   pub fit : IsBatch (old ++ ops)
   pub refused : IsInserted limit (operation_at t place) (old ++ ops) (old ++ ops) (Err error)
+  pub reason : error ≢ InsertRefused MemoryRanOut
 
+-- why none is appended, and which place is told: where memory ran out, the one that was given
 abbrev pub RefusesOperations : ℕ → OperationTable → ℕ → List NamedOp → ℕ → OperationsError → Type 0
 RefusesOperations limit t from old place BadLength = (are_alike t ≡ false) × (place ≡ from)
 RefusesOperations limit t from old place (Refused error) = IsFirstRefused limit t from old place error

@@ -138,7 +138,7 @@ fn copy_with_room(alloc: Global, batch: &Batch, count: usize) -> Result<Batch, A
 
 /// A batch with the operations from place `done` on behind its own: as many as there are, and as it has room for if it may have as
 /// many as the limit. `done` becomes the first place that isn't in; or, where an operation is refused, the place of the first that
-/// is.
+/// is. Where memory runs out `done` stays as it was, so that the same call can be made again.
 ///
 /// ```
 /// let mut done = 0;
@@ -167,6 +167,9 @@ pub fn with_operations(
     while longer.len() < limit && place < count {
         match push_at(alloc, &mut longer, limit, operations, place) {
             Ok(()) => place += 1,
+            Err(InsertError::Refused(PushError::OutOfMemory)) => {
+                return Err(OperationsError::OutOfMemory);
+            }
             Err(error) => {
                 *done = place as u64;
                 return Err(OperationsError::Refused(error));

@@ -1,5 +1,5 @@
 -- What the calls about a desk tell.
-use Rattle.std.specs.Prelude.{◌≡◌, ◌⊎◌, ◌+◌, ℕ, List, [], length, count_by, Option, Some, None, IsSomeAnd, MatchBool, nat_le, ◌&&◌}
+use Rattle.std.specs.Prelude.{◌≡◌, ◌≢◌, ◌⊎◌, ◌+◌, ℕ, List, [], length, count_by, Option, Some, None, IsSomeAnd, MatchBool, nat_le, ◌&&◌}
 use Rattle.graph_types.specs.{Step.outcomes, declared.batches.NamedOp.NamedOp}
 use Rattle.graph_version.specs.{Versions.{content, empty_version}, Kept.edge_total, Rebased.IsRebased}
 use Rattle.block_reclamation.specs.Status.{is_free, is_retired, is_in_use, is_reclaimable}
@@ -15,11 +15,16 @@ use Rattle.store_handles.specs.declared.held.Held.TheVariants as held
 use Rattle.misteluk_c.specs.declared.desks.{DeskStat.DeskStat, HoldNumbers.HoldNumbers}
 use Rattle.misteluk_c.specs.Held.{held_version_of, batch_in, MakesHeld}
 
--- the desk that a handle holds
+-- the desk that a handle holds, and the identity that this desk's holds have
 abbrev pub held_desk : Option Held → Option OwnedView
 held_desk None = None
-held_desk (Some (held.Desk desk)) = Some desk
+held_desk (Some (held.Desk desk identity)) = Some desk
 held_desk (Some _) = None
+
+abbrev pub identity_in : Option Held → ℕ
+identity_in None = 0
+identity_in (Some (held.Desk desk identity)) = identity
+identity_in (Some _) = 0
 
 abbrev pub apply_code : ApplyError → ℕ
 apply_code refused.BatchLimit = 11
@@ -58,24 +63,28 @@ stat_of d =
     }
 
 -- the last version is held in a handle that held nothing, or not: all is as it was then
-abbrev pub TellsHeld : OwnedView → OwnedView → Option Held → Option Held → ℕ → HoldNumbers → Type 0
-TellsHeld old new (Some before) version code hold = (code ≡ 3) × (new ≡ old) × (version ≡ Some before)
-TellsHeld old new None version code hold =
-    ((code ≡ 0) × (held_version_of version ≡ Some old.desk.last) × (hold ≡ record { opening = old.opening; number = length old.desk.last.batches })
+abbrev pub TellsHeld : ℕ → OwnedView → OwnedView → Option Held → Option Held → ℕ → HoldNumbers → Type 0
+TellsHeld identity old new (Some before) version code hold = (code ≡ 3) × (new ≡ old) × (version ≡ Some before)
+TellsHeld identity old new None version code hold =
+    ((code ≡ 0) × (held_version_of version ≡ Some old.desk.last)
+    × (hold ≡ record { desk = identity; opening = old.opening; number = length old.desk.last.batches })
     × HoldsOnce old (length old.desk.last.batches) new)
     ⊎ ((code ≡ 15) × RefusesHold old (length old.desk.last.batches) NoSeat × (new ≡ old) × (version ≡ None))
     ⊎ ((code ≡ 1) × (new ≡ old) × (version ≡ None))
 
-abbrev pub TellsHold : OwnedView → Option Held → Option Held → Option Held → ℕ → HoldNumbers → Type 0
-TellsHold old desk before version code hold = IsSomeAnd (held_desk desk) (λ new. TellsHeld old new before version code hold)
+abbrev pub TellsHold : ℕ → OwnedView → Option Held → Option Held → Option Held → ℕ → HoldNumbers → Type 0
+TellsHold identity old desk before version code hold =
+    IsSomeAnd (held_desk desk) (λ new. TellsHeld identity old new before version code hold)
 
 abbrev pub hold_of : HoldNumbers → Hold
 hold_of hold = record { opening = hold.opening; number = hold.number }
 
-abbrev pub TellsRelease : OwnedView → HoldNumbers → Option Held → ℕ → Type 0
-TellsRelease old hold desk code =
-    IsSomeAnd (held_desk desk) (λ new. ((code ≡ 0) × IsReleased old (hold_of hold) new)
-    ⊎ ((code ≡ 15) × RefusesRelease old (hold_of hold) × (new ≡ old)))
+-- a hold of the desk with this identity is taken back, or it isn't held; one that another desk gave is refused
+abbrev pub TellsRelease : ℕ → OwnedView → HoldNumbers → Option Held → ℕ → Type 0
+TellsRelease identity old hold desk code =
+    IsSomeAnd (held_desk desk) (λ new. ((code ≡ 0) × (hold.desk ≡ identity) × IsReleased old (hold_of hold) new)
+    ⊎ ((code ≡ 15) × (hold.desk ≡ identity) × RefusesRelease old (hold_of hold) × (new ≡ old))
+    ⊎ ((code ≡ 15) × (hold.desk ≢ identity) × (new ≡ old)))
 
 abbrev pub TellsRebase : OwnedView → Option Held → ℕ → Type 0
 TellsRebase old desk code =

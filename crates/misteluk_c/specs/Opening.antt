@@ -43,9 +43,14 @@ Opens blocks old new code =
     ((16 ≤ blocks) × (blocks ≤ standard_size) × OpensIn standard_limits blocks old new code)
     ⊎ RefusesBlocks standard_size blocks old new code
 
--- under limits of its own, where these are within the walls
+-- limits within the walls, each of them 1 or more
+abbrev pub AreOwnLimits : LimitsView → Type 0
+AreOwnLimits limits =
+    AreLimits limits × (1 ≤ limits.names) × (1 ≤ limits.kinds) × (1 ≤ limits.batches) × (1 ≤ limits.weight)
+
+-- under such limits of its own
 abbrev pub OpensWithin : LimitsView → ℕ → Option Held → Option Held → ℕ → Type 0
 OpensWithin limits blocks old new code =
-    (AreLimits limits × (((16 ≤ blocks) × (blocks ≤ most_blocks) × OpensIn limits blocks old new code)
+    (AreOwnLimits limits × (((16 ≤ blocks) × (blocks ≤ most_blocks) × OpensIn limits blocks old new code)
     ⊎ RefusesBlocks most_blocks blocks old new code))
-    ⊎ ((AreLimits limits → ⊥) × (code ≡ 19) × (new ≡ old))
+    ⊎ ((AreOwnLimits limits → ⊥) × (code ≡ 19) × (new ≡ old))

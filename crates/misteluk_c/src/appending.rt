@@ -41,6 +41,7 @@ pub extern "C" fn misteluk_batch_columns(
       weights = weights.now;
       times = times.now;
     }) done.old ops done.new batch.new.held result) }
+    ensures memory { result ≡ 1 → done.new ≡ done.old }
     ensures none { batch_in batch.old.held ≡ None → (batch.new.held ≡ batch.old.held) × (done.new ≡ done.old) }
 {
     let operations = Operations {
@@ -88,6 +89,7 @@ pub extern "C" fn misteluk_batch_columns_within(
       weights = weights.now;
       times = times.now;
     }) done.old batch.old.held done.new batch.new.held result }
+    ensures memory { result ≡ 1 → done.new ≡ done.old }
     ensures none { batch_in batch.old.held ≡ None → (batch.new.held ≡ batch.old.held) × (done.new ≡ done.old) }
 {
     let operations = Operations {
@@ -126,6 +128,7 @@ fn append_by(
     requires { limit ≤ most_operations }
     ensures told { Asks (batch_in batch.old.held) result
         (λ ops. TellsColumns limit (table_of operations.now) done.old ops done.new batch.new.held result) }
+    ensures memory { result ≡ 1 → done.new ≡ done.old }
     ensures none { batch_in batch.old.held ≡ None → (batch.new.held ≡ batch.old.held) × (done.new ≡ done.old) }
 {
     let Some(mut held) = batch.take(alloc) else {
@@ -137,6 +140,7 @@ fn append_by(
 }
 
 /// Puts a longer batch in the place of one that is held.
+#[tactic(auto, using(crate::proofs::Memory::memory_moves_none))]
 fn append_in(
     alloc: Global,
     held: &mut Held,
@@ -147,6 +151,7 @@ fn append_in(
     requires { limit ≤ most_operations }
     ensures told { Asks (batch_in (Some held.old)) result
         (λ ops. TellsColumns limit (table_of operations.now) done.old ops done.new (Some held.new) result) }
+    ensures memory { result ≡ 1 → done.new ≡ done.old }
     ensures none { batch_in (Some held.old) ≡ None → (held.new ≡ held.old) × (done.new ≡ done.old) }
 {
     let answer = match &*held {

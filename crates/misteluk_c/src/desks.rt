@@ -3,7 +3,7 @@
 ghost use Rattle.std.specs.Prelude.{◌≡◌, ◌≢◌, ℕ, Some, None};
 ghost use Rattle.misteluk_c.specs.Held.{batch_in, held_version_of, Asks};
 ghost use Rattle.misteluk_c.specs.Desks as desks;
-ghost use Rattle.misteluk_c.specs.Desks.{held_desk, TellsApply, TellsApplied, TellsCollect, TellsHeld, TellsHold, TellsRelease, TellsRebase, stat_of};
+ghost use Rattle.misteluk_c.specs.Desks.{held_desk, identity_in, TellsApply, TellsApplied, TellsCollect, TellsHeld, TellsHold, TellsRelease, TellsRebase, stat_of};
 
 use crate::codes::{
     BATCHES_FULL, BLOCKS_FULL, HELD_ALREADY, KINDS_FULL, MEMORY, NAMES_FULL, NO_HANDLE, NO_SEAT, OK,
@@ -29,10 +29,12 @@ pub struct DeskStat {
     pub blocks_used: u64,
 }
 
-/// Which version is held, for its release.
+/// Which version is held, and by which desk, for its release.
 #[derive(Clone, Copy)]
 #[repr(C)]
 pub struct HoldNumbers {
+    /// The identity of the desk that gave it.
+    pub desk: u64,
     pub opening: u64,
     pub number: u64,
 }
@@ -54,6 +56,7 @@ pub extern "C" fn misteluk_desk_apply(
 ) -> u32
     ensures told { Asks (held_desk desk.old.held) result (λ o. Asks (batch_in batch.old.held) result
         (λ ops. TellsApply o ops desk.new.held batch.new.held result counts.new)) }
+    ensures identity { identity_in desk.new.held ≡ identity_in desk.old.held }
     ensures same { result ≡ 2 → (desk.new.held ≡ desk.old.held) × (batch.new.held ≡ batch.old.held) }
 {
     let Some(mut held) = desk.take(alloc) else {
@@ -119,6 +122,7 @@ fn apply_in(alloc: Global, desk: &mut OwnedDesk, held: &mut Held, counts: &mut C
 #[unsafe(no_mangle)]
 pub extern "C" fn misteluk_desk_collect(alloc: Global, desk: &mut Handle, freed: &mut u64) -> u32
     ensures told { Asks (held_desk desk.old.held) result (λ o. TellsCollect o desk.new.held result freed.new) }
+    ensures identity { identity_in desk.new.held ≡ identity_in desk.old.held }
     ensures same { result ≡ 2 → desk.new.held ≡ desk.old.held }
 {
     let Some(mut held) = desk.take(alloc) else {
@@ -139,7 +143,7 @@ pub extern "C" fn misteluk_desk_stat(alloc: Global, desk: &mut Handle, out: &mut
         return NO_HANDLE;
     };
     let code = match &*held {
-        Held::Desk(desk) => {
+        Held::Desk { desk, .. } => {
             *out = counts_of(desk.desk());
             OK
         }
@@ -173,7 +177,8 @@ pub extern "C" fn misteluk_desk_hold(
     hold: &mut HoldNumbers,
 ) -> u32
     ensures told { Asks (held_desk desk.old.held) result
-        (λ o. TellsHold o desk.new.held version.old.held version.new.held result hold.new) }
+        (λ o. TellsHold (identity_in desk.old.held) o desk.new.held version.old.held version.new.held result hold.new) }
+    ensures identity { identity_in desk.new.held ≡ identity_in desk.old.held }
     ensures same { result ≡ 2 → (desk.new.held ≡ desk.old.held) × (version.new.held ≡ version.old.held) }
 {
     let Some(mut held) = desk.take(alloc) else {
@@ -185,8 +190,14 @@ pub extern "C" fn misteluk_desk_hold(
 }
 
 /// Holds a desk's last version in a handle that holds nothing.
-fn hold_in(alloc: Global, desk: &mut OwnedDesk, version: &mut Handle, hold: &mut HoldNumbers) -> u32
-    ensures told { TellsHeld desk.old desk.new version.old.held version.new.held result hold.new }
+fn hold_in(
+    alloc: Global,
+    desk: &mut OwnedDesk,
+    identity: u64,
+    version: &mut Handle,
+    hold: &mut HoldNumbers,
+) -> u32
+    ensures told { TellsHeld identity desk.old desk.new version.old.held version.new.held result hold.new }
     ensures there { result ≢ 2 }
 {
     if !version.is_empty() {
@@ -201,6 +212,7 @@ fn hold_in(alloc: Global, desk: &mut OwnedDesk, version: &mut Handle, hold: &mut
     match desk.hold() {
         Ok(held) => {
             *hold = HoldNumbers {
+                desk: identity,
                 opening: held.hold.opening,
                 number: held.hold.number,
             };
@@ -214,8 +226,9 @@ fn hold_in(alloc: Global, desk: &mut OwnedDesk, version: &mut Handle, hold: &mut
 
 /// Takes one hold back.
 #[unsafe(no_mangle)]
-pub extern "C" fn misteluk_desk_release(alloc: Global, desk: &mut Handle, hold: HoldNumbers) -> u32
-    ensures told { Asks (held_desk desk.old.held) result (λ o. TellsRelease o hold desk.new.held result) }
+pub extern "C" fn misteluk_desk_release(alloc: Global, desk: &mut Handle, hold: &HoldNumbers) -> u32
+    ensures told { Asks (held_desk desk.old.held) result (λ o. TellsRelease (identity_in desk.old.held) o hold.now desk.new.held result) }
+    ensures identity { identity_in desk.new.held ≡ identity_in desk.old.held }
     ensures same { result ≡ 2 → desk.new.held ≡ desk.old.held }
 {
     let Some(mut held) = desk.take(alloc) else {
@@ -230,6 +243,7 @@ pub extern "C" fn misteluk_desk_release(alloc: Global, desk: &mut Handle, hold: 
 #[unsafe(no_mangle)]
 pub extern "C" fn misteluk_desk_rebase(alloc: Global, desk: &mut Handle) -> u32
     ensures told { Asks (held_desk desk.old.held) result (λ o. TellsRebase o desk.new.held result) }
+    ensures identity { identity_in desk.new.held ≡ identity_in desk.old.held }
     ensures same { result ≡ 2 → desk.new.held ≡ desk.old.held }
 {
     let Some(mut held) = desk.take(alloc) else {
@@ -257,9 +271,10 @@ fn apply_by(alloc: Global, held: &mut Held, batch: &mut Handle, counts: &mut Cou
     ensures told { Asks (held_desk (Some held.old)) result
         (λ o. Asks (batch_in batch.old.held) result
         (λ ops. TellsApply o ops (Some held.new) batch.new.held result counts.new)) }
+    ensures identity { identity_in (Some held.new) ≡ identity_in (Some held.old) }
     ensures same { result ≡ 2 → (held.new ≡ held.old) × (batch.new.held ≡ batch.old.held) }
 {
-    let Held::Desk(desk) = held else {
+    let Held::Desk { desk, .. } = held else {
         return NO_HANDLE;
     };
     apply_held(alloc, desk, batch, counts)
@@ -268,9 +283,10 @@ fn apply_by(alloc: Global, held: &mut Held, batch: &mut Handle, counts: &mut Cou
 fn collect_by(held: &mut Held, freed: &mut u64) -> u32
     ensures told { Asks (held_desk (Some held.old)) result
         (λ o. TellsCollect o (Some held.new) result freed.new) }
+    ensures identity { identity_in (Some held.new) ≡ identity_in (Some held.old) }
     ensures same { result ≡ 2 → held.new ≡ held.old }
 {
-    let Held::Desk(desk) = held else {
+    let Held::Desk { desk, .. } = held else {
         return NO_HANDLE;
     };
     *freed = desk.collect().recycled as u64;
@@ -279,23 +295,28 @@ fn collect_by(held: &mut Held, freed: &mut u64) -> u32
 
 fn hold_by(alloc: Global, held: &mut Held, version: &mut Handle, hold: &mut HoldNumbers) -> u32
     ensures told { Asks (held_desk (Some held.old)) result
-        (λ o. TellsHold o (Some held.new) version.old.held version.new.held result hold.new) }
+        (λ o. TellsHold (identity_in (Some held.old)) o (Some held.new) version.old.held version.new.held result hold.new) }
+    ensures identity { identity_in (Some held.new) ≡ identity_in (Some held.old) }
     ensures same { result ≡ 2 → (held.new ≡ held.old) × (version.new.held ≡ version.old.held) }
 {
-    let Held::Desk(desk) = held else {
+    let Held::Desk { desk, identity } = held else {
         return NO_HANDLE;
     };
-    hold_in(alloc, desk, version, hold)
+    hold_in(alloc, desk, *identity, version, hold)
 }
 
-fn release_by(held: &mut Held, hold: HoldNumbers) -> u32
+fn release_by(held: &mut Held, hold: &HoldNumbers) -> u32
     ensures told { Asks (held_desk (Some held.old)) result
-        (λ o. TellsRelease o hold (Some held.new) result) }
+        (λ o. TellsRelease (identity_in (Some held.old)) o hold.now (Some held.new) result) }
+    ensures identity { identity_in (Some held.new) ≡ identity_in (Some held.old) }
     ensures same { result ≡ 2 → held.new ≡ held.old }
 {
-    let Held::Desk(desk) = held else {
+    let Held::Desk { desk, identity } = held else {
         return NO_HANDLE;
     };
+    if hold.desk != *identity {
+        return NO_SEAT;
+    }
     let hold = Hold {
         opening: hold.opening,
         number: hold.number,
@@ -309,9 +330,10 @@ fn release_by(held: &mut Held, hold: HoldNumbers) -> u32
 fn rebase_by(held: &mut Held) -> u32
     ensures told { Asks (held_desk (Some held.old)) result
         (λ o. TellsRebase o (Some held.new) result) }
+    ensures identity { identity_in (Some held.new) ≡ identity_in (Some held.old) }
     ensures same { result ≡ 2 → held.new ≡ held.old }
 {
-    let Held::Desk(desk) = held else {
+    let Held::Desk { desk, .. } = held else {
         return NO_HANDLE;
     };
     match desk.rebase() {

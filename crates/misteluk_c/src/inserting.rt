@@ -3,7 +3,7 @@
 ghost use Rattle.std.specs.Prelude.{◌≡◌, Some, None};
 ghost use Rattle.desk_columns.specs.Feeding.{columns_of};
 ghost use Rattle.misteluk_c.specs.Held.{Asks};
-ghost use Rattle.misteluk_c.specs.Desks.{held_desk};
+ghost use Rattle.misteluk_c.specs.Desks.{held_desk, identity_in};
 ghost use Rattle.misteluk_c.specs.Columns.{TellsFeeding};
 ghost use Rattle.misteluk_c.specs.Columns as columns;
 
@@ -38,6 +38,7 @@ pub extern "C" fn misteluk_desk_insert_columns(
       weights = weights.now;
       times = times.now;
     }) o desk.new.held result counts.new done.new) }
+    ensures identity { identity_in desk.new.held ≡ identity_in desk.old.held }
     ensures none { held_desk desk.old.held ≡ None
         → (desk.new.held ≡ desk.old.held) × (counts.new ≡ counts.old) × (done.new ≡ done.old) }
 {
@@ -67,10 +68,11 @@ fn insert_by(
 ) -> u32
     ensures told { Asks (held_desk (Some held.old)) result
         (λ o. TellsFeeding (columns_of insertions.now) o (Some held.new) result counts.new done.new) }
+    ensures identity { identity_in (Some held.new) ≡ identity_in (Some held.old) }
     ensures none { held_desk (Some held.old) ≡ None
         → (held.new ≡ held.old) × (counts.new ≡ counts.old) × (done.new ≡ done.old) }
 {
-    let Held::Desk(desk) = held else {
+    let Held::Desk { desk, .. } = held else {
         return NO_HANDLE;
     };
     insert_columns_code(insert_columns(alloc, desk, insertions, counts, done))

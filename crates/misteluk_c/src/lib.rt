@@ -20,7 +20,7 @@ mod versions;
 /// The number of the interface that the header declares.
 #[unsafe(no_mangle)]
 pub extern "C" fn misteluk_interface() -> u32
-    ensures { result ≡ 1 }
+    ensures { result ≡ 2 }
 {
-    1
+    2
 }

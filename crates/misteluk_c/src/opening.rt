@@ -12,6 +12,7 @@ ghost use Rattle.misteluk_c.specs.Opening.{Opens, OpensWithin, limits_of, limits
 use crate::codes::{BAD_BLOCKS, BAD_LIMITS, HELD_ALREADY, MEMORY, NO_HANDLE, OK};
 use desk::{Desk, OwnedDesk};
 use graph_types::{Limits, MOST_WEIGHT, STANDARD_SIZE};
+use libc::getentropy;
 use std::alloc::Global;
 use store_handles::{Handle, Held};
 
@@ -67,10 +68,13 @@ pub extern "C" fn misteluk_desk_new_within_weight(
     open_under(alloc, limits, weight, blocks, out)
 }
 
-/// Opens a desk under limits of its own, where these are within the walls.
+/// Opens a desk under limits of its own, where these are within the walls, and none is 0.
 fn open_under(alloc: Global, limits: &DeskLimits, weight: u64, blocks: u32, out: &mut Handle) -> u32
     ensures { OpensWithin (limits_with limits.now weight) blocks out.old.held out.new.held result }
 {
+    if limits.names == 0 || limits.kinds == 0 || limits.batches == 0 || weight == 0 {
+        return BAD_LIMITS;
+    }
     let Ok(limits) = Limits::within(limits.names, limits.kinds, limits.batches, weight) else {
         return BAD_LIMITS;
     };
@@ -93,11 +97,25 @@ fn open_in(alloc: Global, limits: Limits, blocks: u32, out: &mut Handle) -> u32
     let Ok(desk) = Desk::open_within(alloc, limits, blocks) else {
         return MEMORY;
     };
-    let Ok(boxed) = Box::new(alloc, Held::Desk(OwnedDesk::over(desk))) else {
+    let Some(identity) = new_identity() else {
+        return MEMORY;
+    };
+    let desk = OwnedDesk::over(desk);
+    let Ok(boxed) = Box::new(alloc, Held::Desk { desk, identity }) else {
         return MEMORY;
     };
     out.put(boxed);
     OK
+}
+
+/// A random number, which no other desk has but by a chance of one in 2^64: its holds are known by it. Addresses wouldn't do, since
+/// that of a desk that has ended may be another's. None where the system has no random number to give.
+fn new_identity() -> Option<u64> {
+    let mut bytes = [0; 8];
+    if getentropy(&mut bytes) != 0 {
+        return None;
+    }
+    Some(u64::from_ne_bytes(bytes))
 }
 
 /// Tells the limits that a desk was opened under.
@@ -114,7 +132,7 @@ pub extern "C" fn misteluk_desk_limits(
         return NO_HANDLE;
     };
     let code = match &*held {
-        Held::Desk(desk) => {
+        Held::Desk { desk, .. } => {
             *out = limits_of(desk.desk());
             OK
         }
@@ -145,7 +163,7 @@ pub extern "C" fn misteluk_desk_weight(alloc: Global, desk: &mut Handle, out: &m
         return NO_HANDLE;
     };
     let code = match &*held {
-        Held::Desk(desk) => {
+        Held::Desk { desk, .. } => {
             *out = weight_of(desk.desk());
             OK
         }

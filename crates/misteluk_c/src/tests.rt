@@ -110,6 +110,7 @@ fn apply(alloc: Global, batch: &mut Handle, desk: &mut Handle, version: &mut Han
         blocks_used: 0,
     };
     let mut hold = HoldNumbers {
+        desk: 0,
         opening: 0,
         number: 0,
     };
@@ -135,7 +136,7 @@ fn apply(alloc: Global, batch: &mut Handle, desk: &mut Handle, version: &mut Han
         misteluk_desk_collect(alloc, desk, &mut freed),
         misteluk_desk_stat(alloc, desk, &mut stat),
         misteluk_desk_hold(alloc, desk, version, &mut hold),
-        misteluk_desk_release(alloc, desk, hold),
+        misteluk_desk_release(alloc, desk, &hold),
         misteluk_desk_rebase(alloc, desk),
     ];
     sum(&codes)

@@ -74,6 +74,7 @@ pub extern "C" fn misteluk_version_size(
 ) -> u32
     ensures same { version.new.held ≡ version.old.held }
     ensures told { Asks (held_version_of version.old.held) result (λ v. (result ≡ 0) × (out.new ≡ size_of v)) }
+    ensures none { held_version_of version.old.held ≡ None → out.new ≡ out.old }
 {
     let Some(held) = version.take(alloc) else {
         return NO_HANDLE;
@@ -96,6 +97,7 @@ pub extern "C" fn misteluk_version_vertex(
 ) -> u32
     ensures same { version.new.held ≡ version.old.held }
     ensures told { Asks (held_version_of version.old.held) result (λ v. TellsNumber 16 (content v).names name.now result out.new) }
+    ensures none { held_version_of version.old.held ≡ None → out.new ≡ out.old }
 {
     let Some(held) = version.take(alloc) else {
         return NO_HANDLE;
@@ -118,6 +120,7 @@ pub extern "C" fn misteluk_version_kind(
 ) -> u32
     ensures same { version.new.held ≡ version.old.held }
     ensures told { Asks (held_version_of version.old.held) result (λ v. TellsNumber 17 (content v).kinds name.now result out.new) }
+    ensures none { held_version_of version.old.held ≡ None → out.new ≡ out.old }
 {
     let Some(held) = version.take(alloc) else {
         return NO_HANDLE;
@@ -141,6 +144,7 @@ pub extern "C" fn misteluk_version_names(
 ) -> u32
     ensures same { version.new.held ≡ version.old.held }
     ensures told { Asks (held_version_of version.old.held) result (λ v. TellsNames 16 (content v).names first text.old text.new ends.new result) }
+    ensures none { held_version_of version.old.held ≡ None → (text.new ≡ text.old) × (ends.new ≡ ends.old) }
 {
     let Some(held) = version.take(alloc) else {
         return NO_HANDLE;
@@ -167,6 +171,7 @@ pub extern "C" fn misteluk_version_kind_names(
 ) -> u32
     ensures same { version.new.held ≡ version.old.held }
     ensures told { Asks (held_version_of version.old.held) result (λ v. TellsNames 17 (content v).kinds first text.old text.new ends.new result) }
+    ensures none { held_version_of version.old.held ≡ None → (text.new ≡ text.old) × (ends.new ≡ ends.old) }
 {
     let Some(held) = version.take(alloc) else {
         return NO_HANDLE;
@@ -194,6 +199,7 @@ pub extern "C" fn misteluk_version_edge(
 ) -> u32
     ensures same { version.new.held ≡ version.old.held }
     ensures told { Asks (held_version_of version.old.held) result (λ v. TellsEdge (marks_of_edge (content v) kind source target) result out.new) }
+    ensures none { held_version_of version.old.held ≡ None → out.new ≡ out.old }
 {
     let Some(held) = version.take(alloc) else {
         return NO_HANDLE;
@@ -219,6 +225,9 @@ pub extern "C" fn misteluk_version_degrees(
     ensures same { version.new.held ≡ version.old.held }
     ensures told { Asks (held_version_of version.old.held) result (λ v. TellsCode result (WritesDegrees (content v) view.now (degree_columns outgoing.old incoming.old out_weight.old)
         (degree_columns outgoing.new incoming.new out_weight.new))) }
+    ensures none { held_version_of version.old.held ≡ None
+        → (outgoing.new ≡ outgoing.old) × (incoming.new ≡ incoming.old)
+        × (out_weight.new ≡ out_weight.old) }
 {
     let Some(held) = version.take(alloc) else {
         return NO_HANDLE;
@@ -246,6 +255,7 @@ pub extern "C" fn misteluk_version_levels(
 ) -> u32
     ensures same { version.new.held ≡ version.old.held }
     ensures told { Asks (held_version_of version.old.held) result (λ v. TellsCode result (WritesLevels (content v) view.now source levels.old levels.new)) }
+    ensures none { held_version_of version.old.held ≡ None → levels.new ≡ levels.old }
 {
     let Some(held) = version.take(alloc) else {
         return NO_HANDLE;
@@ -270,6 +280,7 @@ pub extern "C" fn misteluk_version_labels(
 ) -> u32
     ensures same { version.new.held ≡ version.old.held }
     ensures told { Asks (held_version_of version.old.held) result (λ v. TellsCode result (WritesLabels (content v) view.now labels.old labels.new)) }
+    ensures none { held_version_of version.old.held ≡ None → labels.new ≡ labels.old }
 {
     let Some(held) = version.take(alloc) else {
         return NO_HANDLE;
@@ -292,6 +303,7 @@ pub extern "C" fn misteluk_version_cores(
 ) -> u32
     ensures same { version.new.held ≡ version.old.held }
     ensures told { Asks (held_version_of version.old.held) result (λ v. TellsCode result (WritesCores (content v) view.now cores.old cores.new)) }
+    ensures none { held_version_of version.old.held ≡ None → cores.new ≡ cores.old }
 {
     let Some(held) = version.take(alloc) else {
         return NO_HANDLE;
@@ -321,6 +333,9 @@ pub extern "C" fn misteluk_version_row(
     ensures same { version.new.held ≡ version.old.held }
     ensures told { Asks (held_version_of version.old.held) result (λ v. TellsCode result (WritesRow v view.now source (columns kinds.old targets.old weights.old firsts.old recents.old)
         (columns kinds.new targets.new weights.new firsts.new recents.new)) × IsRowCount v view.now source count.new) }
+    ensures none { held_version_of version.old.held ≡ None
+        → (kinds.new ≡ kinds.old) × (targets.new ≡ targets.old) × (weights.new ≡ weights.old)
+        × (firsts.new ≡ firsts.old) × (recents.new ≡ recents.old) × (count.new ≡ count.old) }
 {
     let Some(held) = version.take(alloc) else {
         return NO_HANDLE;
@@ -354,6 +369,9 @@ pub extern "C" fn misteluk_version_edges(
     ensures told { Asks (held_version_of version.old.held) result (λ v. TellsCode result (WritesEdges v view.now
         (edge_columns source.old sources.old (columns kinds.old targets.old weights.old firsts.old recents.old))
         (edge_columns source.new sources.new (columns kinds.new targets.new weights.new firsts.new recents.new)) count.new)) }
+    ensures none { held_version_of version.old.held ≡ None
+        → (source.new ≡ source.old) × (kinds.new ≡ kinds.old) × (sources.new ≡ sources.old) × (targets.new ≡ targets.old)
+        × (weights.new ≡ weights.old) × (firsts.new ≡ firsts.old) × (recents.new ≡ recents.old) × (count.new ≡ count.old) }
 {
     let Some(held) = version.take(alloc) else {
         return NO_HANDLE;

@@ -8,7 +8,8 @@ use std::sync::Arc;
 /// What a handle may hold.
 #[derive(Drop)]
 pub enum Held {
-    Desk(OwnedDesk),
+    /// A desk, and the identity that its holds have.
+    Desk { desk: OwnedDesk, identity: u64 },
     Batch(Batch),
     /// A batch that a desk refused, which had shared it.
     Shared(Arc<Batch>),

@@ -7,7 +7,7 @@ from typing import Any, Callable, Dict, List, Tuple, Union
 # Where an array or a text begins: its address, bytes that are only read, or an array of ctypes.
 Memory = Union[int, bytes, "Array[Any]"]
 
-INTERFACE = 1
+INTERFACE = 2
 ANY_KIND = 0xFFFF_FFFF
 NOT_REACHED = 0xFFFF_FFFF
 INSERT = 0
@@ -100,7 +100,8 @@ class Size(Structure):
 
 
 class Hold(Structure):
-    _fields_ = [("opening", c_uint64), ("number", c_uint64)]
+    _fields_ = [("desk", c_uint64), ("opening", c_uint64), ("number", c_uint64)]
+    desk: int
     opening: int
     number: int
 
@@ -146,7 +147,7 @@ FUNCTIONS: Dict[str, Tuple[Any, List[Any]]] = {
     "desk_collect": (c_uint32, [POINTER(Desk), POINTER(c_uint64)]),
     "desk_stat": (c_uint32, [POINTER(Desk), POINTER(Stat)]),
     "desk_hold": (c_uint32, [POINTER(Desk), POINTER(Version), POINTER(Hold)]),
-    "desk_release": (c_uint32, [POINTER(Desk), Hold]),
+    "desk_release": (c_uint32, [POINTER(Desk), POINTER(Hold)]),
     "desk_rebase": (c_uint32, [POINTER(Desk)]),
     "version_clone": (c_uint32, [POINTER(Version), POINTER(Version)]),
     "version_free": (None, [Version]),

@@ -10,6 +10,7 @@ loop-alloc-preserved c =
     let pushed = rw c.in-Ok-push_at.is at c.push_at.ensures in
     let longer = one_longer c.args.limit (operation_at t c.loop-alloc.place) c.loop-alloc.longer c.push_at.new.batch c.in-Ok-push_at.field-0 pushed in
     record {
+      told = c.loop-alloc.invariant.told;
       order = omega arith;
       within = omega arith;
       few = omega (arith, c.loop-alloc.invariant.few, longer);

@@ -3,9 +3,10 @@ use Rattle.graph_types.specs.declared.batches.NamedOp.{NamedOp}
 use Rattle.batch_columns.specs.Operations.{table_of, operations_from}
 use Rattle.batch_columns.proofs.operations.with_operations.Given as goal
 
--- the operations before the place are behind the batch's own
+-- the operations before the place are behind the batch's own, and no other place is told yet
 abbrev pub invariant-loop-alloc : goal.invariant-loop-alloc
 invariant-loop-alloc l = record {
+  told : l.done ≡ l.fn.done;
   order : l.fn.done ≤ l.place;
   within : l.place - l.fn.done ≤ l.count - l.fn.done;
   few : length l.longer ≡ length l.batch + (l.place - l.fn.done);
