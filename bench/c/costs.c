@@ -102,7 +102,7 @@ static void hold(uint32_t seat) { must(misteluk_desk_hold(&desk, &versions[seat]
 static void release(uint32_t seat)
 {
     if (!versions[seat].at) return;
-    must(misteluk_desk_release(&desk, holds[seat]));
+    must(misteluk_desk_release(&desk, &holds[seat]));
     misteluk_version_free(versions[seat]);
     versions[seat].at = 0;
 }
