@@ -1,6 +1,6 @@
 //! The desk.
 
-ghost use Rattle.std.specs.Prelude.{◌≡◌, ℕ, ◌+◌, ◌<◌, ◌≤◌, ◌++◌, length, true, map, count_by};
+ghost use Rattle.std.specs.Prelude.{◌≡◌, ℕ, ◌+◌, ◌<◌, ◌≤◌, ◌++◌, [], length, true, false, map, count_by};
 ghost use Rattle.std.specs.Prelude.{IfOk, IfErr, OnOk, OnErr, Err};
 ghost use Rattle.std.specs.Arc.{arc_value};
 ghost use Rattle.std.specs.Coded.{codes};
@@ -366,6 +366,7 @@ impl Desk {
     /// last version's, and the used blocks are those of the last version.
     pub fn journal(&self) -> &[JournalEntry]
         ensures entries { keeps_batches self.now.last.opening.limits ≡ true → map journal_entry result.now ≡ self.now.journal }
+        ensures none { keeps_batches self.now.last.opening.limits ≡ false → result.now ≡ [] }
         ensures replays { IsDesk self.now }
         ensures dated { AreDated self.now.opened (length self.now.last.batches) self.now.pool }
         ensures used { count_by is_in_use self.now.pool ≡ block_count self.now.last }

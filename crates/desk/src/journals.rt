@@ -1,6 +1,6 @@
 //! The journal: in the proofs all entries, and in memory those of a store that keeps its batches.
 
-ghost use Rattle.std.specs.Prelude.{◌≡◌, ◌+◌, ◌<◌, ◌≤◌, ◌++◌, ◌∷◌, [], true, map, OnOk, vec_capacity, vec_len};
+ghost use Rattle.std.specs.Prelude.{◌≡◌, ◌+◌, ◌<◌, ◌≤◌, ◌++◌, ◌∷◌, [], true, false, map, OnOk, vec_capacity, vec_len};
 ghost use Rattle.desk.specs.Entries.{journal_entry};
 
 use crate::entries::JournalEntry;
@@ -27,7 +27,7 @@ impl Drop for Journal {
 }
 
 impl Model for Journal {
-    ghost use Rattle.std.specs.Prelude.{◌≡◌, true, map, vec_capacity, vec_len};
+    ghost use Rattle.std.specs.Prelude.{◌≡◌, [], true, false, map, vec_capacity, vec_len};
     ghost use Rattle.desk.specs.Journals.{JournalView, room_of};
     ghost use Rattle.desk.specs.Entries.{journal_entry};
 
@@ -39,7 +39,7 @@ impl Model for Journal {
       room = room_of j.keeps (vec_len j.kept) (vec_capacity j.kept);
     } };
 
-    ghost invariant = { λ j. j.keeps ≡ true → map journal_entry j.kept.items ≡ j.told };
+    ghost invariant = { λ j. (j.keeps ≡ true → map journal_entry j.kept.items ≡ j.told) × (j.keeps ≡ false → j.kept.items ≡ []) };
 }
 
 impl Journal {
@@ -82,9 +82,10 @@ impl Journal {
         }
     }
 
-    /// The entries, where they are kept.
+    /// The entries, where they are kept, and else none.
     pub(crate) fn entries(&self) -> &[JournalEntry]
-        ensures { self.now.keeps ≡ true → map journal_entry result.now ≡ self.now.entries }
+        ensures kept { self.now.keeps ≡ true → map journal_entry result.now ≡ self.now.entries }
+        ensures none { self.now.keeps ≡ false → result.now ≡ [] }
     {
         self.kept.as_slice()
     }
