@@ -1,10 +1,10 @@
 -- What was found of the ends of operations, as more names appear.
 use Rattle.std.proofs.Common.{◌≡◌, ◌∙◌, ℕ, ◌+◌, Bool, true, false, if◌then◌else◌, IsTrue, List, [], ◌∷◌, map, drop, refl}
-use Rattle.std.proofs.Common.{sym, ap, Option, Some, None, subst, length, ◌<◌, ◌≤◌, arith}
+use Rattle.std.proofs.Common.{sym, ap, Option, Some, None, subst, length, get_or, zero, suc, ◌<◌, ◌≤◌, arith}
 use Rattle.std.{specs.Option.IfSome, proofs.lemmas.Option.IfSome_then}
 use Rattle.graph_types.specs.{Step.{with_name, makes_names, number_of}, Answer.is_listed, declared.batches.NamedOp.NamedOp}
 use Rattle.graph_types.specs.Parts.{Parts, OfEdge, OfAll, parts_of, names_by, names_after}
-use Rattle.batch_apply.specs.{declared.resolve.Ends.Ends, Plan.{known, ends_by, ends_in, IsFound, AreFound}}
+use Rattle.batch_apply.specs.{declared.resolve.Ends.Ends, Plan.{known, ends_by, ends_in, unknown_ends, AreFound, WasFound, WereFound}}
 use Rattle.std.proofs.lemmas.List.{drop-drop}
 use Rattle.graph_types.proofs.{ListedNames.kept, NameLists.number_of-lt}
 use Rattle.vertex_names.specs.Book.{Book}
@@ -50,8 +50,8 @@ target_later names done (OfEdge change kind source target) found is = IfSome_the
 target_later names done (OfAll time) found is = is
 
 -- what was found stays so behind an operation
-pub all_later : (names : List (List ℕ)) (done : NamedOp) (ops : List NamedOp) (found : List Ends) → AreFound names ops found
-    → AreFound (names_after done names) ops found
+pub all_later : (names : List (List ℕ)) (done : NamedOp) (ops : List NamedOp) (found : List Ends) → WereFound names ops found
+    → WereFound (names_after done names) ops found
 all_later names done [] found are = tt
 all_later names done (op ∷ ops) [] are = tt
 all_later names done (op ∷ ops) (ends ∷ found) are = (
@@ -63,7 +63,7 @@ all_later names done (op ∷ ops) (ends ∷ found) are = (
 )
 
 -- nothing found is right, and so is what the names themselves give
-pub nothing_found : (names : List (List ℕ)) (ops : List NamedOp) → AreFound names ops []
+pub nothing_found : (names : List (List ℕ)) (ops : List NamedOp) → WereFound names ops []
 nothing_found names [] = tt
 nothing_found names (op ∷ ops) = tt
 
@@ -71,27 +71,40 @@ itself : (o : Option ℕ) → IfSome o (λ n. o ≡ Some n)
 itself (Some n) = refl
 itself None = tt
 
-each_one : (names : List (List ℕ)) (op : NamedOp) → IsFound names op (ends_in names op)
+each_one : (names : List (List ℕ)) (op : NamedOp) → WasFound names op (ends_in names op)
 each_one names op = (itself (ends_in names op).source, itself (ends_in names op).target)
 
-pub each_found : (names : List (List ℕ)) (ops : List NamedOp) → AreFound names ops (map (ends_in names) ops)
+each_found : (names : List (List ℕ)) (ops : List NamedOp) → WereFound names ops (map (ends_in names) ops)
 each_found names [] = tt
 each_found names (op ∷ ops) = (each_one names op, each_found names ops)
 
--- what was found of the first, and of those behind it
-pub first_found : (names : List (List ℕ)) (op : NamedOp) (ops : List NamedOp) (ends : Ends) (front rest : List Ends)
-    → front ≡ ends ∷ rest → AreFound names (op ∷ ops) front → IsFound names op ends
-first_found names op ops ends front rest is are = (subst (λ l. AreFound names (op ∷ ops) l) is are).0
+-- so what so many workers look up is right
+pub looked_up : (workers : ℕ) (names : List (List ℕ)) (ops : List NamedOp) (found : List Ends)
+    → (2 ≤ workers → AreFound names ops found) → (workers < 2 → found ≡ []) → WereFound names ops found
+looked_up zero names ops found many alone =
+    subst (λ l. WereFound names ops l) (sym (alone (omega arith))) (nothing_found names ops)
+looked_up (suc zero) names ops found many alone =
+    subst (λ l. WereFound names ops l) (sym (alone (omega arith))) (nothing_found names ops)
+looked_up (suc (suc n)) names ops found many alone =
+    subst (λ l. WereFound names ops l) (sym (many (omega arith))) (each_found names ops)
 
-tail_found : (names : List (List ℕ)) (op : NamedOp) (ops : List NamedOp) (front : List Ends) → AreFound names (op ∷ ops) front
-    → AreFound names ops (drop 1 front)
+-- what was found at a place, of the first of the operations from there on; and of those past it
+pub first_found : (names : List (List ℕ)) (op : NamedOp) (ops : List NamedOp) (found : List Ends) (k : ℕ)
+    → WereFound names (op ∷ ops) (drop k found) → WasFound names op (get_or found k unknown_ends)
+first_found names op ops [] zero are = (tt, tt)
+first_found names op ops [] (suc k) are = (tt, tt)
+first_found names op ops (ends ∷ found) zero are = are.0
+first_found names op ops (ends ∷ found) (suc k) are = first_found names op ops found k are
+
+tail_found : (names : List (List ℕ)) (op : NamedOp) (ops : List NamedOp) (front : List Ends) → WereFound names (op ∷ ops) front
+    → WereFound names ops (drop 1 front)
 tail_found names op ops [] are = nothing_found names ops
 tail_found names op ops (ends ∷ front) are = are.1
 
 pub rest_found : (names : List (List ℕ)) (op : NamedOp) (ops : List NamedOp) (found : List Ends) (k : ℕ)
-    → AreFound names (op ∷ ops) (drop k found) → AreFound names ops (drop (k + 1) found)
+    → WereFound names (op ∷ ops) (drop k found) → WereFound names ops (drop (k + 1) found)
 rest_found names op ops found k are =
-    subst (λ l. AreFound names ops l) (drop-drop 1 k found) (tail_found names op ops (drop k found) are)
+    subst (λ l. WereFound names ops l) (drop-drop 1 k found) (tail_found names op ops (drop k found) are)
 
 -- a kind's number is small, if the kinds are few
 few_listed : (kinds : Book) (kind : List ℕ) (b : Bool) → b ≡ is_listed kinds.names kind → length kinds.names ≤ kinds.limit

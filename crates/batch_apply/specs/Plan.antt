@@ -1,5 +1,5 @@
 -- The numbers of a batch's names, each operation by the names at its place.
-use Rattle.std.specs.{Prelude.{ℕ, ◌≡◌, ◌<◌, ◌≤◌, List, ◌∷◌, length, Bool, if◌then◌else◌}, Option.{option_map, IfSome}}
+use Rattle.std.specs.{Prelude.{ℕ, ◌≡◌, ◌<◌, ◌≤◌, List, ◌∷◌, length, map, Bool, if◌then◌else◌}, Option.{option_map, IfSome}}
 use Rattle.std.specs.declared.option.Option.{Option, TheVariants.{None, Some}}
 use Rattle.graph_types.specs.{Graph.{Graph, Key}, Limits.standard_limits, Step.{number_of, with_name, empty_graph}, Changes.IsChange}
 use Rattle.graph_types.specs.{Answer.is_listed, Refusals.IsLimitRefusal, declared.{batches.NamedOp.NamedOp, refusals.ApplyError.ApplyError}}
@@ -21,15 +21,23 @@ ends_by names (OfAll time) = record { source = None; target = None }
 abbrev pub ends_in : List (List ℕ) → NamedOp → Ends
 ends_in names op = ends_by names (parts_of op)
 
--- what was found of an operation's ends: each number is the one that the names give the end
-abbrev pub IsFound : List (List ℕ) → NamedOp → Ends → Type 0
-IsFound names op found = IfSome found.source (λ s. (ends_in names op).source ≡ Some s)
+-- what is found of each operation's ends: the number of each end, exactly where the names have it
+abbrev pub AreFound : List (List ℕ) → List NamedOp → List Ends → Type 0
+AreFound names ops found = found ≡ map (ends_in names) ops
+
+-- what is found where nobody looked
+abbrev pub unknown_ends : Ends
+unknown_ends = record { source = None; target = None }
+
+-- what was found of an operation's ends before some names came: each number is the one that the names give the end
+abbrev pub WasFound : List (List ℕ) → NamedOp → Ends → Type 0
+WasFound names op found = IfSome found.source (λ s. (ends_in names op).source ≡ Some s)
     × IfSome found.target (λ t. (ends_in names op).target ≡ Some t)
 
--- what was found of the first of these operations, or of all
-abbrev pub AreFound : List (List ℕ) → List NamedOp → List Ends → Type 0
-AreFound names (op ∷ ops) (ends ∷ found) = IsFound names op ends × AreFound names ops found
-AreFound names _ _ = Unit {0}
+-- what was found so of the first of these operations, or of all
+abbrev pub WereFound : List (List ℕ) → List NamedOp → List Ends → Type 0
+WereFound names (op ∷ ops) (ends ∷ found) = WasFound names op ends × WereFound names ops found
+WereFound names _ _ = Unit {0}
 
 -- the number of an operation's kind, by these kinds
 abbrev pub kind_by : List (List ℕ) → Parts → Option ℕ

@@ -13,7 +13,7 @@ ghost use Rattle.graph_version.specs.Versions.{content, IsVersion};
 ghost use Rattle.graph_version.specs.Rows.{row_of};
 ghost use Rattle.batch_shards.specs.Done.{layout_by, sources_in};
 ghost use Rattle.batch_shards.specs.Spending.{needed};
-ghost use Rattle.batch_apply.specs.Plan.{shown_op, AreFound, IsInRange};
+ghost use Rattle.batch_apply.specs.Plan.{shown_op, WereFound, IsInRange};
 ghost use Rattle.graph_types.specs.Refusals.{MeetsNeitherLimit, IsLimitRefusal};
 ghost use Rattle.batch_apply.specs.Shards.{IsShardOf, latest_expiry};
 ghost use Rattle.batch_apply.specs.OldRows.{AreOldRows};
@@ -51,7 +51,7 @@ pub fn name_ops(
 ) -> Result<NamedBatch, ApplyError>
     requires names { names.now ≡ vertex_book (content version.now) }
     requires batch { IsBatch ops.now }
-    requires found { AreFound (content version.now).names ops.now found.now }
+    requires found { WereFound (content version.now).names ops.now found.now }
     ensures names { IfOk result (λ n. n.names ≡ vertex_book (after_all ops.now (content version.now))) }
     ensures kinds { IfOk result (λ n. n.kinds ≡ kind_book (after_all ops.now (content version.now))) }
     ensures ops { IfOk result (λ n. map shown_op n.ops.items ≡ resolved ops.now (content version.now)) }

@@ -1,9 +1,8 @@
 //! The numbers that a batch's names have before it, looked up by several workers at once.
 
-ghost use Rattle.std.specs.Prelude.{◌≡◌, ◌∷◌, ℕ, List, drop, map, IfOk};
+ghost use Rattle.std.specs.Prelude.{◌≡◌, ◌<◌, ◌≤◌, [], get_or, IfOk};
 ghost use Rattle.std.specs.Thread.{IsSync};
-ghost use Rattle.graph_types.specs.declared.batches.NamedOp.{NamedOp};
-ghost use Rattle.batch_apply.specs.Plan.{ends_in, AreFound, IsFound};
+ghost use Rattle.batch_apply.specs.Plan.{ends_in, unknown_ends, AreFound};
 
 use crate::resolve::Ends;
 use crate::workers::one_after_another;
@@ -30,7 +29,7 @@ fn find(names: &NameBook, op: &NamedOp) -> Ends
 
 /// The numbers of the ends of operations, one after another.
 fn find_each(alloc: Global, names: &NameBook, ops: &[NamedOp]) -> Result<Vec<Ends>, AllocError>
-    ensures { IfOk result (λ v. v.items ≡ map (ends_in names.now.names) ops.now) }
+    ensures { IfOk result (λ v. AreFound names.now.names ops.now v.items) }
 {
     let mut found = Vec::with_capacity(alloc, ops.len())?;
     for op in ops {
@@ -48,7 +47,7 @@ fn find_all<R: Threads + Sync>(
     ops: &[NamedOp],
     workers: usize,
 ) -> Result<Vec<Ends>, AllocError>
-    ensures { IfOk result (λ v. v.items ≡ map (ends_in names.now.names) ops.now) }
+    ensures { IfOk result (λ v. AreFound names.now.names ops.now v.items) }
 {
     if workers < 2 {
         return find_each(alloc, names, ops);
@@ -58,11 +57,11 @@ fn find_all<R: Threads + Sync>(
     let (low, high) = ops.split_at(ops.len() / 2);
     let back = move || -> Result<Vec<Ends>, AllocError>
         requires { IsSync R.row }
-        ensures { IfOk result (λ v. v.items ≡ map (ends_in names.entry.now.names) high.entry.now) }
+        ensures { IfOk result (λ v. AreFound names.entry.now.names high.entry.now v.items) }
     { find_all(rt, alloc, names, high, half) };
     let front = move || -> Result<Vec<Ends>, AllocError>
         requires { IsSync R.row }
-        ensures { IfOk result (λ v. v.items ≡ map (ends_in names.entry.now.names) low.entry.now) }
+        ensures { IfOk result (λ v. AreFound names.entry.now.names low.entry.now v.items) }
     { find_all(rt, alloc, names, low, rest) };
     let (b, a) = join(rt, back, front);
     let all = a?;
@@ -72,7 +71,7 @@ fn find_all<R: Threads + Sync>(
 }
 
 /// What is known of the ends of operations before any is resolved: nothing where there is one worker, who resolves each in
-/// turn, and else the numbers that several look up at once.
+/// turn, and else the number of each end that has appeared, which several look up at once.
 pub fn look_up<R: Threads + Sync>(
     rt: &R,
     alloc: Global,
@@ -80,7 +79,8 @@ pub fn look_up<R: Threads + Sync>(
     ops: &[NamedOp],
     workers: usize,
 ) -> Result<Vec<Ends>, AllocError>
-    ensures { IfOk result (λ v. AreFound names.now.names ops.now v.items) }
+    ensures found { IfOk result (λ v. 2 ≤ workers → AreFound names.now.names ops.now v.items) }
+    ensures alone { IfOk result (λ v. workers < 2 → v.items ≡ []) }
 {
     if workers < 2 {
         return Ok(Vec::new(alloc));
@@ -88,10 +88,9 @@ pub fn look_up<R: Threads + Sync>(
     find_all(rt, alloc, names, ops, workers)
 }
 
-/// What was found of the ends of the operation at a place.
+/// What was found of the ends of the operation at a place: nothing past the last of which something was.
 pub fn found_at(found: &[Ends], place: usize) -> Ends
-    ensures { (names : List (List ℕ)) (op : NamedOp) (ops : List NamedOp) → AreFound names (op ∷ ops) (drop place found.now)
-        → IsFound names op result }
+    ensures { result ≡ get_or found.now place unknown_ends }
 {
     if place < found.len() {
         found[place]

@@ -5,7 +5,7 @@ ghost use Rattle.graph_types.specs.Valid.{IsValid};
 ghost use Rattle.graph_types.specs.Limits.{weight_limit};
 ghost use Rattle.graph_types.specs.Parts.{names_after_all, kinds_after_all};
 ghost use Rattle.edge_block.specs.Batches.{resolved_by, IsPlaced};
-ghost use Rattle.batch_apply.specs.Plan.{shown_op, with_names, AreFound, Fits, IsInRange, IsUnplanned};
+ghost use Rattle.batch_apply.specs.Plan.{shown_op, with_names, WereFound, Fits, IsInRange, IsUnplanned};
 
 use crate::finding::found_at;
 use crate::resolve::{Ends, ResolvedOp, resolve_op};
@@ -31,7 +31,7 @@ pub fn resolve_batch(
     requires within { Fits names.old × Fits kinds.old }
     requires most { most ≤ weight_limit }
     requires valid { All IsValid ops.now }
-    requires found { AreFound names.old.names ops.now found_before.now }
+    requires found { WereFound names.old.names ops.now found_before.now }
     ensures ops { IfOk result (λ v. map shown_op v.items ≡ resolved_by most ops.now names.old.names kinds.old.names) }
     ensures changes { IfOk result (λ v. All IsInRange v.items) }
     ensures placed { IfOk result (λ v. All IsPlaced (map shown_op v.items)) }

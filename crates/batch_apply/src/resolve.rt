@@ -10,7 +10,7 @@ ghost use Rattle.std.specs.Option.{option_map};
 ghost use Rattle.graph_types.specs.Parts.{parts_in, names_after, kinds_after, names_after_all};
 ghost use Rattle.graph_types.specs.Limits.{weight_limit};
 ghost use Rattle.batch_apply.specs.Plan.{known, key_from, key_shown, shown_op, with_names, ends_made, kind_made};
-ghost use Rattle.batch_apply.specs.Plan.{Fits, IsFound, IsSeen, IsInRange, IsRefusal, IsUnplanned};
+ghost use Rattle.batch_apply.specs.Plan.{Fits, WasFound, IsSeen, IsInRange, IsRefusal, IsUnplanned};
 
 use graph_types::{ApplyError, EdgeChange, KindId, MOST_WEIGHT, NamedOp, OpParts, parts_in};
 use vertex_names::{AddError, NameBook, is_same_name};
@@ -307,7 +307,7 @@ pub fn resolve_op<'a>(
     requires op { IsValid op.now }
     requires most { most ≤ weight_limit }
     requires behind { All IsValid behind.now }
-    requires found { IsFound names.old.names op.now found }
+    requires found { WasFound names.old.names op.now found }
     requires seen { IsSeen kinds.old.names seen }
     ensures op { IfOk result (λ r. shown_op r.op
         ≡ resolve_parts (names_after op.now names.old.names) (kinds_after op.now kinds.old.names) (parts_in most op.now)) }

@@ -6,8 +6,8 @@ use Rattle.graph_types.proofs.Cases.{err_then}
 use Rattle.edge_block.specs.Batches.{resolved_by}
 use Rattle.edge_block.proofs.ShardResults.{placed_in}
 use Rattle.vertex_names.specs.Book.{Book}
-use Rattle.batch_apply.specs.Plan.{shown_op, AreFound, IsInRange, IsSeen, IsUnplanned}
-use Rattle.batch_apply.proofs.{Found.{all_later, rest_found}, Resolving.{one_more, all_resolved}}
+use Rattle.batch_apply.specs.Plan.{shown_op, WasFound, WereFound, IsInRange, IsSeen, IsUnplanned}
+use Rattle.batch_apply.proofs.{Found.{all_later, first_found, rest_found}, Resolving.{one_more, all_resolved}}
 use Rattle.batch_apply.proofs.Leaving.{unplanned_all}
 use Rattle.batch_apply.proofs.naming.resolve_batch.Goals as goal
 
@@ -34,9 +34,9 @@ loop-k-preserved c =
       few = ap (λ (b : Book). b.limit) c.in_ok-resolved.ensures.kinds ∙ c.loop-k.invariant.few;
       within = c.in_ok-resolved.ensures.within;
       seen = subst (λ l. IsSeen l c.in_ok-resolved.resolved.kind) (sym more_kinds) c.in_ok-resolved.ensures.kind;
-      before = subst (λ l. AreFound l rest (drop (k + 1) c.args.found_before.now)) (sym more_names)
+      before = subst (λ l. WereFound l rest (drop (k + 1) c.args.found_before.now)) (sym more_names)
           (all_later names op rest (drop (k + 1) c.args.found_before.now) (rest_found names op rest c.args.found_before.now k
-          (subst (λ os. AreFound names os (drop k c.args.found_before.now)) step c.loop-k.invariant.before)));
+          (subst (λ os. WereFound names os (drop k c.args.found_before.now)) step c.loop-k.invariant.before)));
     }
 
 pub resolve_op-requires-clause-found : goal.resolve_op-requires-clause-found
@@ -45,8 +45,9 @@ resolve_op-requires-clause-found c =
     let step : drop k c.args.ops.now ≡ c.index-ops-k.result ∷ drop (k + 1) c.args.ops.now =
     rw add-one (drop-cons c.args.ops.now k c.index-ops-k.result c.loop-k-test.true)
     ∙ ap (λ (o : NamedOp). o ∷ drop (k + 1) c.args.ops.now) (sym c.index-ops-k.is) in
-    c.found_at.ensures c.loop-k.names.names c.index-ops-k.result (drop (k + 1) c.args.ops.now)
-    (subst (λ os. AreFound c.loop-k.names.names os (drop k c.args.found_before.now)) step c.loop-k.invariant.before)
+    subst (λ e. WasFound c.loop-k.names.names c.index-ops-k.result e) (sym c.found_at.ensures)
+    (first_found c.loop-k.names.names c.index-ops-k.result (drop (k + 1) c.args.ops.now) c.args.found_before.now k
+    (subst (λ os. WereFound c.loop-k.names.names os (drop k c.args.found_before.now)) step c.loop-k.invariant.before))
 
 pub returns-clause-placed : goal.returns-clause-placed
 returns-clause-placed c =
