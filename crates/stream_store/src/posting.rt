@@ -1,6 +1,6 @@
 //! The desk that posts on a shelf what it accepts.
 
-ghost use Rattle.std.specs.Prelude.{◌≡◌, ℕ, ◌<◌, ◌≤◌, length, true, map, count_by, IsSome};
+ghost use Rattle.std.specs.Prelude.{◌≡◌, ℕ, ◌<◌, ◌≤◌, [], length, true, false, map, count_by, IsSome};
 ghost use Rattle.std.specs.Prelude.{IfOk, IfErr, OnOk, OnErr};
 ghost use Rattle.std.specs.Arc.{arc_value};
 ghost use Rattle.std.specs.Coded.{codes};
@@ -225,6 +225,7 @@ impl Desk {
     pub fn journal(&self) -> &[JournalEntry]
         ensures entries { keeps_batches self.now.desk.last.opening.limits ≡ true
             → map journal_entry result.now ≡ self.now.desk.journal }
+        ensures none { keeps_batches self.now.desk.last.opening.limits ≡ false → result.now ≡ [] }
         ensures replays { IsDesk self.now.desk }
         ensures dated { AreDated self.now.desk.opened (length self.now.desk.last.batches) self.now.desk.pool }
         ensures used { count_by is_in_use self.now.desk.pool ≡ block_count self.now.desk.last }
