@@ -21,7 +21,7 @@ use stream_store::{Config, Naming, Opened, Seat, Store};
 pub(super) enum Story {
     /// A seat learns of a batch, and lets what that left go behind the next one.
     Learnt,
-    /// A seat comes and goes while a batch is held and a collection waits.
+    /// A seat comes and goes while a batch is held, and a collection, a confirmation and the counts wait.
     Beside,
     /// A seat learns of a batch, where a growth may be refused.
     LearntLater,
