@@ -3,7 +3,7 @@
  *     misteluk_desk desk = {0};
  *     misteluk_batch batch = {0};
  *     misteluk_counts counts;
- *     if (misteluk_desk_new(16384, &desk) || misteluk_batch_new(&batch)) return 1;
+ *     if (misteluk_desk_new(1, 16384, &desk) || misteluk_batch_new(&batch)) return 1;
  *     misteluk_batch_insert(&batch, "knows", 5, "ann", 3, "bob", 3, 1, 0);
  *     misteluk_desk_apply(&desk, &batch, &counts);
  *
@@ -99,8 +99,7 @@ typedef struct {
     uint64_t version, vertices, kinds, edges, name_bytes, kind_bytes;
 } misteluk_size;
 
-/* Which version is held, for its release, and which desk holds it, by a random number that the desk has from when it is opened
- * until it ends. */
+/* Which version is held, for its release, and which desk holds it, by the number that the desk was opened with. */
 typedef struct {
     uint64_t desk, opening, number;
 } misteluk_hold;
@@ -164,16 +163,18 @@ uint32_t misteluk_batch_columns_within(misteluk_batch *batch, uint32_t limit, co
 
 /* The desk */
 
-/* Opens a desk without edges, with so many blocks, each for 32 edges of one source and kind. BAD_BLOCKS, HELD_ALREADY, or MEMORY,
- * also where the system has no random number to give (getentropy). */
-uint32_t misteluk_desk_new(uint32_t blocks, misteluk_desk *out);
+/* Opens a desk without edges, with so many blocks, each for 32 edges of one source and kind. `desk_number` is any number that no
+ * other desk of the program was opened with: the desk's holds have it, and no desk of another number takes them back.
+ * BAD_BLOCKS, HELD_ALREADY, MEMORY. */
+uint32_t misteluk_desk_new(uint64_t desk_number, uint32_t blocks, misteluk_desk *out);
 /* The same under limits of one's own, which the desk keeps, also behind a rebase. A block takes memory when it is first used.
  * BAD_LIMITS, BAD_BLOCKS, HELD_ALREADY, MEMORY. */
-uint32_t misteluk_desk_new_within(const misteluk_limits *limits, uint32_t blocks, misteluk_desk *out);
+uint32_t misteluk_desk_new_within(uint64_t desk_number, const misteluk_limits *limits, uint32_t blocks, misteluk_desk *out);
 /* The same with a limit of weights, 1 to 2^40. Vertices times kinds, and one more, times that limit is below 2^63. An operation
  * whose weight or amount is past it, or the sum that it would leave, is counted as overflowed: it changes nothing but that its
  * names are there. BAD_LIMITS, BAD_BLOCKS, HELD_ALREADY, MEMORY. */
-uint32_t misteluk_desk_new_within_weight(const misteluk_limits *limits, uint64_t weight, uint32_t blocks, misteluk_desk *out);
+uint32_t misteluk_desk_new_within_weight(uint64_t desk_number, const misteluk_limits *limits, uint64_t weight, uint32_t blocks,
+    misteluk_desk *out);
 /* Tells the limits of a desk. NO_HANDLE. */
 uint32_t misteluk_desk_limits(misteluk_desk *desk, misteluk_limits *out);
 /* Tells how large the weights of a desk may be. NO_HANDLE. */

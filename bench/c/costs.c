@@ -68,7 +68,7 @@ static const char *name_of(uint32_t vertex) { return text + (size_t)vertex * NAM
 static void insert_columns(void)
 {
     misteluk_counts counts;
-    must(misteluk_desk_new_within(&limits, BLOCKS, &desk));
+    must(misteluk_desk_new_within(1, &limits, BLOCKS, &desk));
     must(misteluk_desk_insert_columns(&desk, "k", 1, text, sizeof text, ends, VERTICES, sources, VERTICES, targets, VERTICES,
         weights, VERTICES, times, VERTICES, &counts, &done));
 }

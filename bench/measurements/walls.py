@@ -41,7 +41,7 @@ class Walls(LightWalls):
         for blocks in (15, BLOCKS + 1):
             self.checks.refused(f"{blocks} blocks", Code.BAD_BLOCKS, self.call.opened, 1, 1, 1, blocks)
         for blocks in (15, 65_537):
-            self.checks.refused(f"{blocks}", Code.BAD_BLOCKS, self.call, "desk_new", blocks, interface.Desk())
+            self.checks.refused(f"{blocks}", Code.BAD_BLOCKS, self.call, "desk_new", 1, blocks, interface.Desk())
 
     def names(self) -> None:
         Full(self, NAMES, b"e").run()

@@ -77,9 +77,9 @@ class Caller:
         """A desk under limits, one of which is on weights where that is said."""
         desk, limits = interface.Desk(), interface.Limits(names, kinds, batches)
         if weight is None:
-            self("desk_new_within", limits, blocks, desk)
+            self("desk_new_within", 1, limits, blocks, desk)
         else:
-            self("desk_new_within_weight", limits, weight, blocks, desk)
+            self("desk_new_within_weight", 1, limits, weight, blocks, desk)
         return desk
 
     def weight(self, desk: Any) -> int:

@@ -49,7 +49,7 @@ class Store:
     def __init__(self, given: Input, library: Any) -> None:
         self.given, self.library = given, library
         self.desk, self.version, self.hold = interface.Desk(), interface.Version(), interface.Hold()
-        must(library.desk_new(BLOCKS, self.desk))
+        must(library.desk_new(1, BLOCKS, self.desk))
 
     def load(self) -> None:
         it, counts, done = self.given, interface.Counts(), c_uint64()

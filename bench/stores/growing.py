@@ -58,7 +58,7 @@ class Store:
         limits = interface.Limits(names=self.names + 2 * SINGLE + 16, kinds=1, batches=(1 << 32) - 1 if endless else 1 << 31)
         # As large as weights may be: with more names than 2^23 less than the most that there is.
         weight = min(1 << 40, ((1 << 63) - 1) // (limits.names + 1))
-        must(library.desk_new_within_weight(limits, weight, min(edges + (1 << 17), 1 << 31), self.desk))
+        must(library.desk_new_within_weight(1, limits, weight, min(edges + (1 << 17), 1 << 31), self.desk))
 
     def load(self, columns: Tuple[Any, ...]) -> List[float]:
         """Seconds of the processor for each step, after which retired blocks are freed."""

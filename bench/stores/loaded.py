@@ -59,7 +59,7 @@ class Loaded:
         limits, small = interface.Limits(), interface.Desk()
         self.call("desk_limits", self.desk, limits)
         self.checks.equal("limits", fields(limits), (self.count + 1, 3, BATCHES))
-        self.call("desk_new", 16, small)
+        self.call("desk_new", 1, 16, small)
         self.call("desk_limits", small, limits)
         self.checks.equal("limits where none are chosen", fields(limits), (65_536, 64, 65_536))
         self.call("desk_free", small)

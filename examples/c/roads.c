@@ -47,7 +47,7 @@ static uint32_t run(misteluk_desk *desk, misteluk_batch *batch, misteluk_version
 {
     misteluk_hold hold, again;
     uint64_t freed;
-    TRY(misteluk_desk_new(64, desk));
+    TRY(misteluk_desk_new(1, 64, desk));
     TRY(misteluk_batch_new(batch));
     TRY(road(batch, "ulm", "kiel", 12, 1));
     TRY(road(batch, "kiel", "jena", 7, 1));

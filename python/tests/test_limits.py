@@ -201,14 +201,14 @@ class Room(Case):
         for wanted, blocks, code in (((131_071, 64, 1), 16, 0), ((131_072, 64, 1), 16, 19), ((8_388_606, 1, 1), 16, 0),
                                      ((8_388_607, 1, 1), 16, 19), ((1, 65, 1), 16, 19), ((1, 1, 1), limits.MOST_BLOCKS + 1, 9)):
             desk = interface.Desk()
-            self.assertEqual(engine.library.desk_new_within(interface.Limits(*wanted), blocks, desk), code, wanted)
+            self.assertEqual(engine.library.desk_new_within(1, interface.Limits(*wanted), blocks, desk), code, wanted)
             engine.library.desk_free(desk)
         for vertices, kinds, weight, code in ((67_108_863, 64, 2_147_483_679, 0), (67_108_863, 64, 2_147_483_680, 19),
                                               (8_388_607, 1, (1 << 40) - 1, 0), (8_388_607, 1, 1 << 40, 19),
                                               (67_108_864, 1, 1, 19), (1, 1, 1 << 40, 0), (1, 1, (1 << 40) + 1, 19)):
             desk, wanted = interface.Desk(), interface.Limits(vertices, kinds, 1)
             with self.subTest(vertices=vertices, kinds=kinds, weight=weight):
-                self.assertEqual(engine.library.desk_new_within_weight(wanted, weight, 16, desk), code)
+                self.assertEqual(engine.library.desk_new_within_weight(1, wanted, weight, 16, desk), code)
                 if code:
                     self.assertRaises(ValueError, Limits(vertices, kinds, 1, weight).checked)
                 else:

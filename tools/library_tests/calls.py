@@ -195,19 +195,23 @@ class Version(Owner):
         return found
 
 
+# The numbers of desks, of which each has its own.
+NUMBERS = itertools.count(1)
+
+
 class Desk(Owner):
     """A desk, under limits of its own where some are given: how many names, kinds and batches, and how large a weight."""
 
     def __init__(self, library: Library, blocks: int, limits: Optional[Tuple[int, int, int]] = None,
                  weight: Optional[int] = None) -> None:
         super().__init__(library)
-        self.handle = interface.Desk()
+        self.handle, number = interface.Desk(), next(NUMBERS)
         if limits is None:
-            must(library.desk_new(blocks, self.handle))
+            must(library.desk_new(number, blocks, self.handle))
         elif weight is None:
-            must(library.desk_new_within(interface.Limits(*limits), blocks, self.handle))
+            must(library.desk_new_within(number, interface.Limits(*limits), blocks, self.handle))
         else:
-            must(library.desk_new_within_weight(interface.Limits(*limits), weight, blocks, self.handle))
+            must(library.desk_new_within_weight(number, interface.Limits(*limits), weight, blocks, self.handle))
 
     def limits(self) -> Tuple[int, ...]:
         out = interface.Limits()

@@ -28,9 +28,9 @@ static int64_t weights[VERTICES];
 static char text[VERTICES * 6];
 
 static void none(void) { }
-static void desk_new(void) { code = misteluk_desk_new(65536, &desk); }
-static void desk_new_within(void) { code = misteluk_desk_new_within(&limits, 65536, &small); }
-static void desk_new_within_weight(void) { code = misteluk_desk_new_within_weight(&limits, 10, 65536, &small); }
+static void desk_new(void) { code = misteluk_desk_new(1, 65536, &desk); }
+static void desk_new_within(void) { code = misteluk_desk_new_within(2, &limits, 65536, &small); }
+static void desk_new_within_weight(void) { code = misteluk_desk_new_within_weight(3, &limits, 10, 65536, &small); }
 static void desk_limits(void) { code = misteluk_desk_limits(&desk, &limits_told); }
 static void desk_weight(void) { code = misteluk_desk_weight(&desk, &number); }
 static void batch_new(void) { code = misteluk_batch_new(&batch); }

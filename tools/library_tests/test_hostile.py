@@ -91,9 +91,9 @@ class Hostile(unittest.TestCase):
         # A handle that is to be made holds something already, and holds it still.
         copy = self.held.clone()
         kept = [self.batch.handle.at, self.desk.handle.at, held.at, copy.handle.at]
-        codes = [it.batch_new(self.batch.handle), it.desk_new(16, self.desk.handle),
-                 it.desk_new_within(interface.Limits(3, 2, 2), 16, self.desk.handle),
-                 it.desk_new_within_weight(interface.Limits(3, 2, 2), 10, 16, self.desk.handle),
+        codes = [it.batch_new(self.batch.handle), it.desk_new(9, 16, self.desk.handle),
+                 it.desk_new_within(9, interface.Limits(3, 2, 2), 16, self.desk.handle),
+                 it.desk_new_within_weight(9, interface.Limits(3, 2, 2), 10, 16, self.desk.handle),
                  it.desk_hold(self.desk.handle, held, interface.Hold()), it.version_clone(held, copy.handle)]
         self.assertEqual(codes, [Code.HELD_ALREADY] * len(codes))
         self.assertEqual([self.batch.handle.at, self.desk.handle.at, held.at, copy.handle.at], kept)
@@ -106,7 +106,7 @@ class Hostile(unittest.TestCase):
     def test_numbers_of_blocks(self) -> None:
         for blocks in (0, 15, 65_537, (1 << 32) - 1):
             desk = interface.Desk()
-            self.refuses(Code.BAD_BLOCKS, self.library.desk_new(blocks, desk))
+            self.refuses(Code.BAD_BLOCKS, self.library.desk_new(9, blocks, desk))
             self.assertIsNone(desk.at)
         for blocks in (16, 65_536):
             Desk(library(), blocks).free()
@@ -116,9 +116,9 @@ class Hostile(unittest.TestCase):
         for limits in ((1 << 26, 1, 1), (most, 1, 1), (1, 65, 1), (1, most, 1), (131_073, 64, 1), (8_388_607, 1, 1),
                        (1 << 25, 1 << 7, 1), (most, most, most), (0, 1, 1), (1, 0, 1), (1, 1, 0), (0, 0, 0), (most >> 6, 0, 1)):
             for blocks in (0, 16):
-                self.refuses(Code.BAD_LIMITS, self.library.desk_new_within(interface.Limits(*limits), blocks, desk))
+                self.refuses(Code.BAD_LIMITS, self.library.desk_new_within(9, interface.Limits(*limits), blocks, desk))
         for blocks in (0, 15, 4_293_918_720, most):
-            self.refuses(Code.BAD_BLOCKS, self.library.desk_new_within(interface.Limits(1, 1, 1), blocks, desk))
+            self.refuses(Code.BAD_BLOCKS, self.library.desk_new_within(9, interface.Limits(1, 1, 1), blocks, desk))
         self.assertIsNone(desk.at)
         for limits in ((8_388_606, 1, most), (131_071, 64, 1), (1, 1, 1)):
             opened = Desk(library(), 65_537, limits)
@@ -131,8 +131,8 @@ class Hostile(unittest.TestCase):
         for limits, weight in (((1, 1, 1), most + 1), ((8_388_607, 1, 1), most), ((67_108_863, 1, 1), 1 << 37),
                                ((67_108_863, 64, 1), 2_147_483_680), ((67_108_864, 1, 1), 1), ((1, 65, 1), 1), ((1, 1, 1), 0),
                                ((0, 1, 1), 1), ((1, 0, 1), 1), ((1, 1, 0), 1)):
-            self.refuses(Code.BAD_LIMITS, self.library.desk_new_within_weight(interface.Limits(*limits), weight, 16, desk))
-        self.refuses(Code.BAD_BLOCKS, self.library.desk_new_within_weight(interface.Limits(1, 1, 1), 1, 15, desk))
+            self.refuses(Code.BAD_LIMITS, self.library.desk_new_within_weight(9, interface.Limits(*limits), weight, 16, desk))
+        self.refuses(Code.BAD_BLOCKS, self.library.desk_new_within_weight(9, interface.Limits(1, 1, 1), 1, 15, desk))
         self.assertIsNone(desk.at)
         for limits, weight in (((1, 1, 1), 1), ((8_388_606, 1, 1), most), ((67_108_863, 1, 1), (1 << 37) - 1),
                                ((67_108_863, 64, 1), 2_147_483_679)):

@@ -68,7 +68,7 @@ int main(void)
     misteluk_hold hold;
     pthread_t threads[THREADS];
     int is_wrong = 0;
-    must(misteluk_desk_new(65536, &desk));
+    must(misteluk_desk_new(1, 65536, &desk));
     for (int it = 0; it < THREADS; it++) {
         feed(&desk, (uint32_t)it);
         must(misteluk_desk_hold(&desk, &held[it], &hold));

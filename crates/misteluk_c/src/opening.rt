@@ -6,13 +6,12 @@ ghost use Rattle.block_reclamation.specs.Status.{most_blocks};
 ghost use Rattle.store_steps.specs.Opening.{opened_desk};
 ghost use Rattle.desk.specs.Owned.{opened_owned};
 ghost use Rattle.misteluk_c.specs.Held.{Asks, MakesHeld};
-ghost use Rattle.misteluk_c.specs.Desks.{held_desk};
+ghost use Rattle.misteluk_c.specs.Desks.{held_desk, identity_in};
 ghost use Rattle.misteluk_c.specs.Opening.{Opens, OpensWithin, limits_of, limits_with, limits_told, weight_told};
 
 use crate::codes::{BAD_BLOCKS, BAD_LIMITS, HELD_ALREADY, MEMORY, NO_HANDLE, OK};
 use desk::{Desk, OwnedDesk};
 use graph_types::{Limits, MOST_WEIGHT, STANDARD_SIZE};
-use libc::getentropy;
 use std::alloc::Global;
 use store_handles::{Handle, Held};
 
@@ -30,47 +29,61 @@ pub struct DeskLimits {
     pub batches: u32,
 }
 
-/// Opens a desk without edges, under the standard limits.
+/// Opens a desk without edges, under the standard limits. Its holds have its number.
 #[unsafe(no_mangle)]
-pub extern "C" fn misteluk_desk_new(alloc: Global, blocks: u32, out: &mut Handle) -> u32
-    ensures { Opens blocks out.old.held out.new.held result }
+pub extern "C" fn misteluk_desk_new(
+    alloc: Global,
+    number: u64,
+    blocks: u32,
+    out: &mut Handle,
+) -> u32
+    ensures { Opens number blocks out.old.held out.new.held result }
 {
     if blocks < LEAST_BLOCKS || blocks > STANDARD_SIZE {
         return BAD_BLOCKS;
     }
-    open_in(alloc, Limits::standard(), blocks, out)
+    open_in(alloc, number, Limits::standard(), blocks, out)
 }
 
 /// Opens a desk without edges, under limits of its own. Weights are as large as they can be.
 #[unsafe(no_mangle)]
 pub extern "C" fn misteluk_desk_new_within(
     alloc: Global,
+    number: u64,
     limits: &DeskLimits,
     blocks: u32,
     out: &mut Handle,
 ) -> u32
-    ensures { OpensWithin (limits_of limits.now) blocks out.old.held out.new.held result }
+    ensures { OpensWithin number (limits_of limits.now) blocks out.old.held out.new.held result }
 {
-    open_under(alloc, limits, MOST_WEIGHT, blocks, out)
+    open_under(alloc, number, limits, MOST_WEIGHT, blocks, out)
 }
 
 /// Opens a desk without edges, under limits of its own, one of which is on weights.
 #[unsafe(no_mangle)]
 pub extern "C" fn misteluk_desk_new_within_weight(
     alloc: Global,
+    number: u64,
     limits: &DeskLimits,
     weight: u64,
     blocks: u32,
     out: &mut Handle,
 ) -> u32
-    ensures { OpensWithin (limits_with limits.now weight) blocks out.old.held out.new.held result }
+    ensures { OpensWithin number (limits_with limits.now weight) blocks out.old.held out.new.held result }
 {
-    open_under(alloc, limits, weight, blocks, out)
+    open_under(alloc, number, limits, weight, blocks, out)
 }
 
 /// Opens a desk under limits of its own, where these are within the walls, and none is 0.
-fn open_under(alloc: Global, limits: &DeskLimits, weight: u64, blocks: u32, out: &mut Handle) -> u32
-    ensures { OpensWithin (limits_with limits.now weight) blocks out.old.held out.new.held result }
+fn open_under(
+    alloc: Global,
+    number: u64,
+    limits: &DeskLimits,
+    weight: u64,
+    blocks: u32,
+    out: &mut Handle,
+) -> u32
+    ensures { OpensWithin number (limits_with limits.now weight) blocks out.old.held out.new.held result }
 {
     if limits.names == 0 || limits.kinds == 0 || limits.batches == 0 || weight == 0 {
         return BAD_LIMITS;
@@ -81,15 +94,16 @@ fn open_under(alloc: Global, limits: &DeskLimits, weight: u64, blocks: u32, out:
     if blocks < LEAST_BLOCKS || blocks > MOST_BLOCKS {
         return BAD_BLOCKS;
     }
-    open_in(alloc, limits, blocks, out)
+    open_in(alloc, number, limits, blocks, out)
 }
 
 /// Opens a desk in a handle that holds nothing.
-fn open_in(alloc: Global, limits: Limits, blocks: u32, out: &mut Handle) -> u32
+fn open_in(alloc: Global, number: u64, limits: Limits, blocks: u32, out: &mut Handle) -> u32
     requires least { 16 ≤ blocks }
     requires most { blocks ≤ most_blocks }
     ensures { MakesHeld out.old.held out.new.held result
-        (λ held. held_desk held ≡ Some (opened_owned (opened_desk blocks (empty_version_in limits)) 0)) }
+        (λ held. (held_desk held ≡ Some (opened_owned (opened_desk blocks (empty_version_in limits)) 0))
+        × (identity_in held ≡ number)) }
 {
     if !out.is_empty() {
         return HELD_ALREADY;
@@ -97,25 +111,15 @@ fn open_in(alloc: Global, limits: Limits, blocks: u32, out: &mut Handle) -> u32
     let Ok(desk) = Desk::open_within(alloc, limits, blocks) else {
         return MEMORY;
     };
-    let Some(identity) = new_identity() else {
-        return MEMORY;
+    let held = Held::Desk {
+        desk: OwnedDesk::over(desk),
+        identity: number,
     };
-    let desk = OwnedDesk::over(desk);
-    let Ok(boxed) = Box::new(alloc, Held::Desk { desk, identity }) else {
+    let Ok(boxed) = Box::new(alloc, held) else {
         return MEMORY;
     };
     out.put(boxed);
     OK
-}
-
-/// A random number, which no other desk has but by a chance of one in 2^64: its holds are known by it. Addresses wouldn't do, since
-/// that of a desk that has ended may be another's. None where the system has no random number to give.
-fn new_identity() -> Option<u64> {
-    let mut bytes = [0; 8];
-    if getentropy(&mut bytes) != 0 {
-        return None;
-    }
-    Some(u64::from_ne_bytes(bytes))
 }
 
 /// Tells the limits that a desk was opened under.

@@ -118,7 +118,7 @@ fn apply(alloc: Global, batch: &mut Handle, desk: &mut Handle, version: &mut Han
     let mut freed = 0_u64;
     let ends = [1_u64, 2];
     let codes = [
-        misteluk_desk_new(alloc, 16, desk),
+        misteluk_desk_new(alloc, 1, 16, desk),
         misteluk_desk_apply(alloc, desk, batch, &mut counts),
         misteluk_desk_insert_columns(
             alloc,
@@ -152,7 +152,7 @@ fn open_within(alloc: Global) -> u32 {
     };
     let given = limits;
     let codes = [
-        misteluk_desk_new_within(alloc, &given, 65_537, &mut desk),
+        misteluk_desk_new_within(alloc, 2, &given, 65_537, &mut desk),
         misteluk_desk_limits(alloc, &mut desk, &mut limits),
     ];
     misteluk_desk_free(alloc, desk);
@@ -169,7 +169,7 @@ fn open_light(alloc: Global) -> u32 {
         batches: 2,
     };
     let codes = [
-        misteluk_desk_new_within_weight(alloc, &limits, 1_000_000, 16, &mut desk),
+        misteluk_desk_new_within_weight(alloc, 3, &limits, 1_000_000, 16, &mut desk),
         misteluk_desk_weight(alloc, &mut desk, &mut most),
     ];
     misteluk_desk_free(alloc, desk);

@@ -135,9 +135,9 @@ FUNCTIONS: Dict[str, Tuple[Any, List[Any]]] = {
     "batch_columns_within": (c_uint32, [POINTER(Batch), c_uint32, c_void_p, c_size_t, c_void_p, c_size_t, c_void_p, c_size_t,
         c_void_p, c_size_t, c_void_p, c_size_t, c_void_p, c_size_t, c_void_p, c_size_t, c_void_p, c_size_t, c_void_p, c_size_t,
         c_void_p, c_size_t, POINTER(c_uint64)]),
-    "desk_new": (c_uint32, [c_uint32, POINTER(Desk)]),
-    "desk_new_within": (c_uint32, [POINTER(Limits), c_uint32, POINTER(Desk)]),
-    "desk_new_within_weight": (c_uint32, [POINTER(Limits), c_uint64, c_uint32, POINTER(Desk)]),
+    "desk_new": (c_uint32, [c_uint64, c_uint32, POINTER(Desk)]),
+    "desk_new_within": (c_uint32, [c_uint64, POINTER(Limits), c_uint32, POINTER(Desk)]),
+    "desk_new_within_weight": (c_uint32, [c_uint64, POINTER(Limits), c_uint64, c_uint32, POINTER(Desk)]),
     "desk_limits": (c_uint32, [POINTER(Desk), POINTER(Limits)]),
     "desk_weight": (c_uint32, [POINTER(Desk), POINTER(c_uint64)]),
     "desk_free": (None, [Desk]),
@@ -184,9 +184,9 @@ class Library:
         int, Memory, int, Memory, int, Memory, int, c_uint64], int]
     batch_columns_within: Callable[[Batch, int, Memory, int, Memory, int, Memory, int, Memory, int, Memory, int, Memory,
         int, Memory, int, Memory, int, Memory, int, Memory, int, c_uint64], int]
-    desk_new: Callable[[int, Desk], int]
-    desk_new_within: Callable[[Limits, int, Desk], int]
-    desk_new_within_weight: Callable[[Limits, int, int, Desk], int]
+    desk_new: Callable[[int, int, Desk], int]
+    desk_new_within: Callable[[int, Limits, int, Desk], int]
+    desk_new_within_weight: Callable[[int, Limits, int, int, Desk], int]
     desk_limits: Callable[[Desk, Limits], int]
     desk_weight: Callable[[Desk, c_uint64], int]
     desk_free: Callable[[Desk], None]

@@ -8,6 +8,7 @@ the end of the process nothing is freed, and in a fork nothing at all.
 """
 from __future__ import annotations
 
+import itertools
 import os
 import struct
 import time
@@ -32,6 +33,8 @@ from ..values.limits import MOST_BATCHES, MOST_BLOCKS, MOST_KINDS, MOST_WEIGHT, 
 FIRST_BLOCKS, MORE_BLOCKS = 65_536, 4
 # How the counts of a batch stand in memory.
 _COUNTS = struct.Struct("=7Q")
+# The numbers of desks: each of the process has its own.
+_NUMBERS = itertools.count(1)
 
 
 class LibraryEngine:
@@ -63,7 +66,7 @@ class LibraryEngine:
         """An opening with an empty desk, of so many versions before."""
         desk = Owned(interface.Desk(), self.handles.desks)
         limits = interface.Limits(*shape[:3])
-        check(self.library.desk_new_within_weight(limits, shape.weight or MOST_WEIGHT, blocks, desk.raw))
+        check(self.library.desk_new_within_weight(next(_NUMBERS), limits, shape.weight or MOST_WEIGHT, blocks, desk.raw))
         return Opening(desk, Notes(), version, version, Known.nothing(), blocks, shape)
 
     @property
