@@ -2,14 +2,37 @@
 import os
 import signal
 import socket
+import subprocess
+import sys
 import threading
 import time
 import unittest
+from unittest import mock
 
 from serving import FEED, ServeCase
-from support import as_soon_as
+from support import HERE, as_soon_as
 
 from misteluk import Busy, Edge, Served, Store
+from misteluk.serve import ending
+
+# A server whose answers stop for long before their part of this number, amid what one thread does.
+SLOW = """
+import sys, time
+import misteluk.serve.flow as flow
+from misteluk.command.main import main
+from misteluk.serve.app import Api
+
+def slow(real):
+    def parts(*given):
+        for at, it in enumerate(real(*given), 1):
+            if at == int(sys.argv[1]):
+                print("begun", flush=True)
+                time.sleep(300)
+            yield it
+    return parts
+Api._parts, flow.BYTES_AT_ONCE = slow(Api._parts), 1
+sys.exit(main(["serve", *sys.argv[2:]]))
+"""
 
 
 class Signals(ServeCase):
@@ -71,6 +94,29 @@ class Signals(ServeCase):
         self.addCleanup(found.close)
         self.assertEqual(found.open().edge("k", "last", "b"), Edge(5, 1, 1))
 
+    def test_a_question_that_takes_long(self):
+        """A thread that is at one delays the end no more than a reader does, before its first bytes and amid them."""
+        for part in ("1", "3"):
+            done = subprocess.Popen([sys.executable, "-c", SLOW, part, "--listen", f"unix:{self.path}", "--save", self.saved,
+                                     "--save-every", "1000"], stdout=subprocess.PIPE, stderr=subprocess.PIPE, text=True,
+                                    env={**os.environ, "PYTHONPATH": str(HERE.parent)})
+            self.addCleanup(done.communicate)
+            self.addCleanup(done.kill)
+            self.assertIn("serves", done.stdout.readline())
+            store = self.client()
+            store.add("k", "a", f"b{part}", 5, 1)
+            store.commit()
+            with socket.socket(socket.AF_UNIX, socket.SOCK_STREAM) as reader:
+                reader.connect(self.path)
+                reader.sendall(b"GET /v1/edges HTTP/1.1\r\nHost: localhost\r\n\r\n")
+                self.assertEqual(done.stdout.readline(), "begun\n")
+                begun = time.monotonic()
+                done.send_signal(signal.SIGTERM)
+                told = done.communicate(timeout=200)[1]
+            self.assertLess(time.monotonic() - begun, 150)
+            self.assertEqual((done.returncode, told.count("misteluk: ended at version 1"), os.path.exists(self.path)), (0, 1, False))
+            self.assertIn(f"b{part}", {it[2] for it in self.in_file()})
+
     def test_commits_until_the_end(self):
         """Each commit that was acknowledged is in the file, and none that was refused."""
         done, store = self.begin(), self.client()
@@ -98,6 +144,51 @@ class Signals(ServeCase):
 
 
 class Ends(ServeCase):
+    def test_a_second_signal(self):
+        """Then nobody waits for answers, whichever signal it is."""
+        for number in (signal.SIGINT, signal.SIGTERM):
+            base = type("Base", (), {"__init__": lambda it, config: None, "should_exit": False, "force_exit": False,
+                                     "handle_exit": lambda it, number, frame: setattr(it, "should_exit", True)})
+            server = ending.made(base, None, None)
+            server.handle_exit(number, None)
+            self.assertEqual((server.should_exit, server.force_exit), (True, False))
+            server.handle_exit(number, None)
+            self.assertEqual((server.should_exit, server.force_exit), (True, True))
+
+    def test_the_last_of_a_process(self):
+        """It ends with the status that it has, which is asked and told once."""
+        for status in (0, 1):
+            last = mock.Mock(return_value=status)
+            deadline = ending.Deadline(last)
+            with mock.patch.object(os, "_exit") as exited:
+                self.assertEqual(deadline.status(), status)
+                deadline._end()
+            self.assertEqual((exited.call_args_list, last.call_count), ([mock.call(status)], 1))
+        deadline = ending.Deadline(mock.Mock(side_effect=BrokenPipeError))
+        with mock.patch.object(os, "_exit") as exited:
+            deadline._end()
+        exited.assert_called_once_with(1)
+
+    def test_a_deadline_that_is_cancelled(self):
+        with mock.patch.object(ending, "LAST", 0.05), mock.patch.object(os, "_exit") as exited:
+            ended, cancelled = ending.Deadline(lambda: 0), ending.Deadline(lambda: 1)
+            for it in (ended, cancelled):
+                it.begin()
+            cancelled.cancel()
+            as_soon_as(lambda: exited.called)
+        cancelled._timer.join()
+        exited.assert_called_once_with(0)
+
+    def test_a_save_that_failed_has_time(self):
+        """It is tried once more at the end, and the process waits for that."""
+        server, said = self.serve(), mock.Mock()
+        server._saved, server._keeper = said, mock.Mock(fault="OSError")
+        server._end()
+        said.assert_not_called()
+        server._keeper.fault = ""
+        server._end()
+        said.assert_called_once_with()
+
     def test_no_rows_come_in_at_the_end(self):
         """Each way of them is told so; questions are answered still."""
         self.fed()

@@ -11,6 +11,7 @@ from typing import Any, Dict, Optional, Tuple
 from ..engine.making import LIBRARY
 from ..feeds.feed import STANDARD_INPUT
 from ..serve.door import raise_descriptors
+from ..serve.ending import Deadline
 from ..serve.keeping import USUAL_EVERY, Keeper
 from ..serve.limits import ServerLimits
 from ..serve.server import USUAL, Server, token_of
@@ -73,6 +74,7 @@ def serve(words: argparse.Namespace, how: Dict[str, Any]) -> int:
         store.engine.fit(0, 0, ROOM)
         raise_descriptors()
         server = Server(store, words.listen, token=token, limits=limits, keeper=keeper, began=began)
+        deadline = Deadline(lambda: ended(server, keeper))
         sys_turn = sys.getswitchinterval()
         sys.setswitchinterval(TURN)
         # (what is here by now stays to the end: a look through all of it for cycles would stop every question)
@@ -81,12 +83,20 @@ def serve(words: argparse.Namespace, how: Dict[str, Any]) -> int:
         try:
             follow(server, words, how)
             tell(server, words, token)
-            server.run()
+            server.run(deadline.begin)
         except KeyboardInterrupt:  # (as a signal ends one that isn't there yet)
             server.end_feed()
         finally:
             gc.unfreeze()
             sys.setswitchinterval(sys_turn)
+    if not server.is_asked:
+        deadline.cancel()
+    return deadline.status()
+
+
+def ended(server: Server, keeper: Optional[Keeper]) -> int:
+    """Tells how far the server came, and gives the status of its process."""
+    server.leave()
     bad = server.feeding.told()["bad"]
     skipped = f"; {bad} bad rows were passed over" if bad else ""
     print(f"misteluk: ended at version {server.board.stat.version}, of {server.board.stat.edges} edges{skipped}", file=sys.stderr)

@@ -51,6 +51,7 @@ class Api:
         self.slow = Pool(limits.questions, limits, "whole")
         self.feed = Pool(1, limits, "rows")
         self.bodies = Pool(1, limits, "bodies")
+        self._pools = self.quick, self.held, self.slow, self.feed, self.bodies
         self.answers = Answers(board, self.store.ledger.terms.names)
         # How many bytes of bodies are here.
         self._taken = 0
@@ -78,8 +79,12 @@ class Api:
         app.router.redirect_slashes = False
         return app
 
+    @property
+    def is_busy(self) -> bool:
+        return any(it.is_busy for it in self._pools)
+
     def close(self) -> None:
-        for it in (self.quick, self.held, self.slow, self.feed, self.bodies):
+        for it in self._pools:
             it.close()
 
     def _call(self, handle: Callable[[Request], Any]) -> Callable[[Request], Any]:

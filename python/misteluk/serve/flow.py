@@ -6,7 +6,7 @@ import json
 import threading
 from concurrent.futures import Future, ThreadPoolExecutor
 from types import TracebackType
-from typing import Any, Awaitable, Callable, Dict, Iterator, List, MutableMapping, Optional, Tuple, Type, TypeVar
+from typing import Any, Awaitable, Callable, Dict, Iterator, List, MutableMapping, Optional, Set, Tuple, Type, TypeVar
 
 from starlette.responses import Response
 
@@ -56,6 +56,7 @@ class Pool:
         self._threads, self._limits = threads, limits
         self._pool = ThreadPoolExecutor(threads, thread_name_prefix=name)
         self._waiting = 0
+        self._made: "Set[Future[Any]]" = set()
 
     async def run(self, call: Callable[[], R], undo: Optional[Callable[[Any], object]] = None) -> R:
         """What a call gives, made by one of the threads. Raises `Full` where too many wait, and where it takes too long; what it
@@ -64,6 +65,8 @@ class Pool:
             raise Full("TooMany", "too many questions are waiting for an answer", 1)
         self._waiting += 1
         made: "Future[R]" = self._pool.submit(call)
+        self._made.add(made)
+        made.add_done_callback(self._made.discard)
         try:
             async with within(self._limits.time, f"the answer takes longer than {self._limits.time:g} s"):
                 return await asyncio.wrap_future(made)
@@ -73,34 +76,51 @@ class Pool:
         finally:
             self._waiting -= 1
 
+    @property
+    def is_busy(self) -> bool:
+        """Whether a thread is at an answer, or one waits for a thread."""
+        return bool(self._made)
+
     def close(self) -> None:
-        self._pool.shutdown(wait=False)
+        """Ends it: what waits isn't answered any more, and nobody waits for what a thread is at."""
+        self._pool.shutdown(wait=False, cancel_futures=True)
 
 
 class Flow:
     """An answer that is made part by part, by one thread at a time."""
 
     def __init__(self, parts: Iterator[bytes]) -> None:
-        self._parts, self._lock = parts, threading.Lock()
+        self._parts, self._lock, self._is_over = parts, threading.Lock(), False
 
     def more(self) -> Tuple[bytes, bool]:
         """The next bytes, and whether there are more."""
-        with self._lock:
-            found: List[bytes] = []
-            size = 0
-            for it in self._parts:
-                found.append(it)
-                size += len(it)
-                if size >= BYTES_AT_ONCE:
-                    return b"".join(found), True
-            return b"".join(found), False
+        try:
+            with self._lock:
+                return self._some()
+        finally:
+            if self._is_over:
+                self.close()
+
+    def _some(self) -> Tuple[bytes, bool]:
+        found: List[bytes] = []
+        size = 0
+        for it in self._parts:
+            found.append(it)
+            size += len(it)
+            if size >= BYTES_AT_ONCE:
+                return b"".join(found), True
+        return b"".join(found), False
 
     def close(self) -> None:
-        """Lets go what the answer was made of."""
-        with self._lock:
-            close = getattr(self._parts, "close", None)
-            if close is not None:
-                close()
+        """Lets go what the answer was made of. Where a thread is at a part of it, that one does so then: nobody waits for it."""
+        self._is_over = True
+        if self._lock.acquire(blocking=False):
+            try:
+                close = getattr(self._parts, "close", None)
+                if close is not None:
+                    close()
+            finally:
+                self._lock.release()
 
 
 class Streamed:
@@ -124,7 +144,7 @@ class Streamed:
                 part, is_more = await self._pool.run(self._flow.more)
         finally:
             gone.cancel()
-            await asyncio.get_running_loop().run_in_executor(None, self._flow.close)
+            self._flow.close()
 
     @staticmethod
     async def _gone(receive: Receive) -> None:

@@ -8,7 +8,7 @@ import stat
 import sys
 import threading
 import traceback
-from typing import Any, List, NamedTuple, Optional
+from typing import Any, Callable, List, NamedTuple, Optional
 
 from .board import Board
 from .door import Door, room_for
@@ -123,6 +123,7 @@ class Server:
             raise ValueError("a server has its store in its own process: it takes engine='library'")
         self.limits, self.store, self._keeper = limits.checked(), store, keeper
         self._socket, self.address = address.bound()
+        self._is_left = False
         self.board = Board(store, self.limits)
         self.feeding = Feeding(self.board, self.limits)
         self._runner, self._api = self._made(token, began)
@@ -134,7 +135,7 @@ class Server:
             import uvicorn
             from .app import Api
         except ImportError as fault:
-            self._leave()
+            self.leave()
             raise Missing(f"{str(fault.name).partition('.')[0]}", "a server") from None
         from .direct import Responder, protocol
         from .ending import made
@@ -146,15 +147,26 @@ class Server:
         config = uvicorn.Config(gate, http=protocol(Responder(gate, api.answers, self.limits), self.door), log_level="critical",
                                 access_log=False, lifespan="off", server_header=False, proxy_headers=False, backlog=AT_ONCE,
                                 timeout_keep_alive=int(self.limits.idle) + 5)
-        return made(uvicorn.Server, config, self.end_feed), api
+        return made(uvicorn.Server, config, self._end), api
 
     @property
     def url(self) -> str:
         return self.address.url
 
-    def run(self) -> None:
-        """Answers until a signal comes, or `stop` is called; then the feed ends, and all is let go."""
-        sweeping, keeper = threading.Event(), self._keeper
+    @property
+    def is_asked(self) -> bool:
+        """Whether a thread is at an answer."""
+        return bool(self._api.is_busy)
+
+    def _end(self) -> None:
+        self.end_feed()
+        if self._keeper is None or not self._keeper.fault:  # (else it is tried once more, however long that takes)
+            self._saved()
+
+    def run(self, saved: Callable[[], None] = lambda: None) -> None:
+        """Answers until a signal comes, or `stop` is called; then the feed ends, and all is let go. `saved` is called as soon as
+        what came in is saved."""
+        sweeping, keeper, self._saved = threading.Event(), self._keeper, saved
         beside = [threading.Thread(target=self._sweep, args=(sweeping,), name="sweeper", daemon=True)]
         if keeper is not None:
             beside.append(threading.Thread(target=keeper.run, args=(self.board,), name="keeper"))
@@ -170,7 +182,7 @@ class Server:
             self.board.let_all_go()
             self._api.close()
             self.board.close()
-            self._leave()
+            self.leave()
 
     def end_feed(self) -> None:
         """Takes no more rows, and saves what is in. It comes before all that may take long at the end, and once more after it."""
@@ -199,7 +211,11 @@ class Server:
         if self._thread is not None:
             self._thread.join()
 
-    def _leave(self) -> None:
+    def leave(self) -> None:
+        """Listens no more."""
+        if self._is_left:  # (another server may be there by now)
+            return
+        self._is_left = True
         self._socket.close()
         if self.address.path:
             try:
