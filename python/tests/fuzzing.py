@@ -2,6 +2,7 @@
 from __future__ import annotations
 
 import random
+import select
 import socket
 import sys
 from typing import List, Tuple
@@ -12,7 +13,7 @@ NAMES = ("ana", "funnel", "Иванов", "%", "%00", "%ff", "..", "a b", "*", "
 PATHS = ("", "v1", "v1/stat", "v1/edge", "v1/out_of", "v1/into", "v1/edges", "v1/levels", "v1/within", "v1/path", "v1/degrees",
          "v1/weights_in", "v1/components", "v1/cores", "v1/names", "v1/view", "v1/sessions", "v1/sessions/zed",
          "v1/sessions/zed/ask", "v1/rows", "v1/feeder", "v1/feeder/zed", "v1/feeder/zed/batches/1", "openapi.json", "live.js",
-         "../etc/passwd", "//")
+         "../etc/passwd", "//", f"v1/feeder/zed/batches/{'1' * 5_000}", "v1/feeder/zed/batches/%D9%A1")
 FIELDS = ("kind", "source", "target", "vertex", "hops", "since", "until", "top", "by", "like", "session", "version", "beside",
           "most", "direction", "feeder", "zed")
 METHODS = ("GET", "GET", "GET", "POST", "POST", "PUT", "DELETE", "HEAD", "PATCH", "OPTIONS", "ZED")
@@ -20,8 +21,23 @@ BODIES = ("", "{}", "[]", "null", '{"rows": []}', '{"rows": [["add", "k", "a", "
           '{"call": "found", "ends": 5}', '{"call": "edges", "since": -1}', '{"operations": "a,k,x,y,1,1\\n"}', "add,k,a,b,1,1",
           '{"operations": "commit\\n", "texts": {}}', "[" * 5_000, '{"rows": [["add", "\\ud800", "a", "b"]]}', '{"rows": {}}',
           "add,k,\"a", "expire,99999999999999999999")
-HOSTS = ("localhost", "127.0.0.1", "evil")
+HOSTS = ("localhost", "localhost", "127.0.0.1", "127.0.0.1", "evil")
 KINDS = ("application/json", "text/csv", "text/html", "", "application/json; charset=utf-16", "multipart/form-data")
+# Headers that say who asks, for what, and how: with each of these values, or with none of its own.
+ANY = ("", " ", "*", "\x80\xff", "x" * 9_000, "null", ",", ";", "=", '"', "%00", "\t", "[", "]", "://", "\x7f")
+ADDRESSES = ("http://[::1", "http://[", "[::1", "[", "//[x]", "http://[::1]:99999", "http://localhost:x", "localhost:99999999999",
+             "http://\u2100".encode().decode("latin-1"), "http://localhost", "http://a@[b", "localhost:", ":", "@", "http://[v1.x]")
+HEADERS = {"Host": (*ANY, *ADDRESSES), "Origin": (*ANY, *ADDRESSES),
+           "Authorization": (*ANY, "Bearer", "Bearer ", "Bearer \xff\xfe", "bearer x y", "Basic !!!", f"Bearer {'x' * 9_000}"),
+           "Content-Type": (*ANY, "text/csv; charset=\xff", "TEXT/CSV;;", "application/json; charset", "/", "text/csv,text/csv"),
+           "Content-Length": (*ANY, "-1", "+5", "5, 5", "9" * 30, "1" * 5_000, "0x5", "1e3", "5.0", "\xb2"),
+           "Accept": (*ANY, "text/html;q=x", "*/*;q=9e999", "/", "application/json" * 400),
+           "Misteluk-Server": (*ANY, "zed", "\xd8\x00", "0" * 5_000), "Sec-Fetch-Site": (*ANY, "cross-site", "none"),
+           "Cookie": ANY, "Range": (*ANY, "bytes=9-1", "bytes=" + "0-1," * 500), "Expect": (*ANY, "100-continue", "200-ok"),
+           "Transfer-Encoding": (*ANY, "chunked", "gzip", "chunked, chunked"), "Connection": (*ANY, "upgrade", "close, keep-alive"),
+           "Upgrade": (*ANY, "websocket", "h2c"), "If-Modified-Since": ANY, "X-Forwarded-For": (*ANY, *ADDRESSES)}
+# A request with one of these may wait for more of it, which doesn't come.
+OF_LENGTH = ("Content-Length", "Transfer-Encoding", "Connection", "Expect", "Upgrade")
 BROKEN = (b"GET / HTTP/1.1\r\n\r\n", b"\x16\x03\x01\x02\x00", b"GET /v1/stat HTTP/9.9\r\nHost: localhost\r\n\r\n", b"GET\r\n\r\n",
           b"POST /v1/rows HTTP/1.1\r\nHost: localhost\r\nContent-Length: -5\r\n\r\n",
           b"GET " + b"/x" * 40_000 + b" HTTP/1.1\r\n\r\n",
@@ -41,9 +57,24 @@ def request(chance: random.Random) -> bytes:
     if body and chance.random() < 0.3:
         at = chance.randrange(len(body))
         body = body[:at] + bytes([chance.randrange(256)]) + body[at + 1:]
-    lines = [f"{chance.choice(METHODS)} /{path} HTTP/1.1".replace(" b", "%20b"), f"Host: {chance.choice(HOSTS)}",
-             "Connection: close", f"Content-Type: {chance.choice(KINDS)}", f"Content-Length: {len(body)}"]
-    return "\r\n".join([*lines, "", ""]).encode("utf-8") + body
+    first = f"{chance.choice(METHODS)} /{path} HTTP/1.1".replace(" b", "%20b")
+    return b"\r\n".join([first.encode("utf-8"), *headers(chance, len(body)), b"", body])
+
+
+def headers(chance: random.Random, length: int) -> List[bytes]:
+    """The headers of a request, of which some are none that a client means."""
+    found = {"Host": chance.choice(HOSTS), "Connection": "close", "Content-Type": chance.choice(KINDS), "Content-Length": str(length)}
+    if chance.random() < 0.3:
+        name = chance.choice(list(HEADERS))
+        found[name] = chance.choice(HEADERS[name])
+    lines = [f"{name}: {it}".encode("latin-1") for name, it in found.items()]
+    return lines + ([chance.choice(lines)] if chance.random() < 0.02 else [])
+
+
+def may_wait(asked: bytes) -> bool:
+    """Whether the server may wait for more than this is."""
+    lines = dict(it.partition(b": ")[::2] for it in asked.partition(b"\r\n\r\n")[0].split(b"\r\n")[1:])
+    return asked in BROKEN or any(lines.get(name.encode()) == it.encode("latin-1") for name in OF_LENGTH for it in HEADERS[name])
 
 
 def answer(port: int, asked: bytes, seconds: float) -> bytes:
@@ -52,7 +83,8 @@ def answer(port: int, asked: bytes, seconds: float) -> bytes:
         parts: List[bytes] = []
         try:
             link.sendall(asked)
-            if asked in BROKEN:
+            if may_wait(asked):
+                select.select([link], [], [], 0.2)
                 link.shutdown(socket.SHUT_WR)
             while not parts or parts[-1]:
                 parts.append(link.recv(1 << 16))

@@ -114,7 +114,8 @@ class Signals(ServeCase):
                 done.send_signal(signal.SIGTERM)
                 told = done.communicate(timeout=200)[1]
             self.assertLess(time.monotonic() - begun, 150)
-            self.assertEqual((done.returncode, told.count("misteluk: ended at version 1"), os.path.exists(self.path)), (0, 1, False))
+            self.assertEqual((done.returncode, told.count("misteluk: ended at version 1")), (0, 1))
+            self.assertFalse(os.path.exists(self.path))
             self.assertIn(f"b{part}", {it[2] for it in self.in_file()})
 
     def test_commits_until_the_end(self):

@@ -1,4 +1,5 @@
 """Posts of many rows: they are read beside the loop, in slices, and refused as soon as that can be seen."""
+import collections
 import http.client
 import json
 import random
@@ -10,6 +11,8 @@ from unittest import mock
 from serving import HAS_PACKAGES, ServeCase
 from support import as_soon_as
 
+import misteluk
+from misteluk.serve import feeding
 from misteluk.serve.limits import ServerLimits
 
 if HAS_PACKAGES:
@@ -86,8 +89,11 @@ class Readers(unittest.TestCase):
             return lambda text, *at: sizes.append(len(text)) or real(text, *at)
         size = 1 << 17
         with mock.patch.object(bodies, "_decoded", seen(bodies._decoded)), \
+                mock.patch.object(bodies, "_scanned", seen(bodies._scanned)), \
                 mock.patch.object(bodies.json, "loads", seen(json.loads)):
-            for data in (filled('{"rows": [', "[],", "[]]}", size), filled('{"rows": [', '["add", "k"],', "[]]}", size),
+            for data in (filled('{"x": "', "\\n", '", "rows": [[]]}', size),
+                         filled('{"x": "', "\\ud83d\\ude00", '", "rows": [[]]}', size),
+                         filled('{"rows": [', "[],", "[]]}", size), filled('{"rows": [', '["add", "k"],', "[]]}", size),
                          filled('{"x": [', "5,", '5], "rows": [[]]}', size),
                          filled('{"x": {', '"a": [[], 5],', '"b": 5}, "rows": [[]]}', size)):
                 list(bodies.rows_of_json(data))
@@ -95,6 +101,43 @@ class Readers(unittest.TestCase):
                 self.assertGreater(len(sizes), size // bodies.WINDOW)
         self.assertEqual(bodies.loaded(filled('{"operations": "', "a,k,x,y,1,1\\n", '"}')),
                          {"operations": "a,k,x,y,1,1\n" * ((SIZE - 18) // 13)})
+
+    def test_long_texts(self):
+        """Escapes are read as `json` reads them, wherever a slice ends, and so is what is wrong."""
+        chance = random.Random(3)
+        parts = ("\\n", "\\ud83d\\ude00", "\\ud83d", "\\ude00", "a", "Ж", "\U0001f600", '\\"', "\\\\", "\\u0041", "x" * 50, "\\/")
+        for at in range(2_000):
+            text = "".join(chance.choice(parts) for _ in range(chance.randrange(40)))
+            if at % 3 == 0 and text:
+                where = chance.randrange(len(text))
+                text = text[:where] + chance.choice('"\\u\0dDn') + text[where + chance.randrange(2):]
+            text = f'"{text}{chance.choice(chr(34) * 4 + "x")}{chance.choice(("", "}", "]  ", "abcdefghijkl"))}'
+            with mock.patch.object(bodies, "WINDOW", chance.choice((13, 17, 64))), mock.patch.object(bodies, "SHORT", 13):
+                reader = bodies.Reader(text)
+                try:
+                    wanted = json.decoder.scanstring(text, 1, True)
+                except ValueError:
+                    self.assertRaises(json.JSONDecodeError, reader.text)
+                else:
+                    self.assertEqual((reader.text(), reader._at), wanted)
+
+    def test_each_sign_is_read_a_few_times(self):
+        """Also where what ends within a window isn't seen at once, since texts have brackets and commas."""
+        size, real = 1 << 18, bodies._list_of
+        for part in (f'["add","k","a],","{"x" * 80}",1,1],', '{"a":"],xxxxxx"},', '"],,",', '"],",', "[],"):
+            data, read = filled('{"x": [', part, '5], "rows": []}', size), []
+            with mock.patch.object(bodies, "_list_of", lambda text: read.append(len(text)) or real(text)):
+                self.assertEqual(list(bodies.rows_of_json(data)), [])
+            self.assertLess(sum(read), 4 * size, part)
+
+    def test_many_values(self):
+        """Arrays that aren't rows have so many values, however they are nested."""
+        for data in (filled('{"ends": [', "5,", "5]}", 1 << 18), filled('{"ends": [', "[[],[],[[]]],", "5]}", 1 << 20),
+                     filled('{"ends": {', '"a":{},', '"b":5}}', 1 << 21)):
+            self.assertRaisesRegex(bodies.TooLarge, "at most 65,536 values: ask several times", bodies.loaded, data)
+        for part, count in (("5,", 65_535), ('["k","a","b"],', 65_535)):
+            self.assertEqual(len(bodies.loaded(b'{"ends": [%s5]}' % (part.encode() * count))["ends"]), 65_536)
+        self.assertEqual(len(bodies.loaded(filled('{"operations": "', "[{", '"}', 1 << 21))["operations"]), (1 << 21) - 18)
 
     def test_what_is_too_long(self):
         for read, data in ((bodies.rows_of_json, filled('{"rows": [["add", "', "x", '"]]}')),
@@ -208,6 +251,30 @@ class Budgets(ServeCase):
         as_soon_as(lambda: api._taken == 100)
         links.pop().close()
         as_soon_as(lambda: api._taken == 0)
+
+    def test_edges_that_are_asked_at_once(self):
+        """A client asks as many as there are, some at a time, of one version."""
+        server = self.fed(*(("add", "k", "a", f"b{it}", it + 1, 1) for it in range(11)))
+        with misteluk.connect(server.url) as session, mock.patch("misteluk.serve.client.MOST_VALUES", 3):
+            self.assertEqual([it.weight for it in session.edges([("k", "a", f"b{it}") for it in range(11)])], list(range(1, 12)))
+            self.assertEqual(list(session.edges([])), [])
+        with misteluk.connect(server.url) as session:
+            self.assertEqual(len(session.edges([("k", "a", "b1")] * 65_537)), 65_537)
+
+    def test_rows_are_let_go_by_batches(self):
+        """Nobody has all of them at once to let go, whether they are applied or refused."""
+        left = collections.deque(range(5))
+        with self.assertRaises(KeyError), feeding.one_by_one(left):
+            raise KeyError
+        self.assertEqual(len(left), 0)
+        self.serve()
+        rows, sizes = [("add", "k", "a", "b", "1", "1")] * 10_000, []
+        apply = self.server.feeding._apply
+        with mock.patch.object(self.server.feeding, "_apply", lambda part, it: sizes.append(part.size) or apply(part, it)):
+            found = self.server.feeding._records(rows)
+            self.assertEqual([len(it) for it in found], [4_096, 4_096, 1_808])
+            self.server.feeding._in_batches(found)
+        self.assertEqual((sizes, len(found)), ([4_096, 4_096, 1_808], 0))
 
     def test_all_or_none(self):
         """A row that is none refuses all, wherever it is, and no name of them is kept."""

@@ -12,17 +12,22 @@ import re
 from json import JSONDecodeError, decoder
 from typing import Any, Iterator, List, Optional, Sequence, Tuple
 
-from .limits import LITTLE, MOST_ROWS, TooLarge
+from .limits import LITTLE, MOST_ROWS, MOST_VALUES, TooLarge
 from ..values.texts import text_of
 
 # How many signs are looked at by one step, and how many one row, or a value within an array, may have.
 WINDOW, LONGEST = 1 << 14, 1 << 18
-# How many values an array has at most that isn't a post's rows. (Python's looks for cycles go through all of them.)
-MOST_VALUES = 1 << 18
+# How many of a text are looked at first: most are short.
+SHORT = 64
+# How many arrays and objects those may have that aren't a post's rows, for each value. (Python's looks for cycles go through
+# all of them.)
+NESTED = 4
 ROWS = 'rows are {"rows": [["add", KIND, SOURCE, TARGET, AMOUNT, TIME], ..]}'
 _SPACE = re.compile(r"[ \t\n\r]*")
 _decoded = json.JSONDecoder().raw_decode
 _scanned: Any = getattr(decoder, "scanstring")
+# Signs of a text, and escapes that are whole: of two that stand for one sign the first isn't taken without the second.
+_SIGNS = re.compile(r'[^"\\]*(?:\\(?:[^u]|u(?![dD][89abAB]).{4}|u.{4}(?=.{6}))[^"\\]*)*', re.S)
 # A row as texts.
 Row = Tuple[str, ...]
 
@@ -36,6 +41,10 @@ class Reader:
         self._text, self._at = text, 0
         # The part in which a value was looked for last, and where it begins.
         self._window, self._begin = "", 0
+        # Up to where values are read one by one, since several weren't seen at once.
+        self._alone = 0
+        # How many arrays and objects were begun, at most.
+        self._nested = 0
 
     def sign(self) -> str:
         """The next sign that is no space; none at the end."""
@@ -79,14 +88,16 @@ class Reader:
 
     def _some(self) -> List[Any]:
         """Values from here on: those that end in the window, where it is seen that way, and else one. (What is cut within a text,
-        an array or an object is no JSON: no other values are read than those that stand there.)"""
-        for size in (WINDOW, WINDOW // 16):
+        an array or an object is no JSON: no other values are read than those that stand there.) Where it isn't seen, it is not
+        tried again before a window has passed: else each value would cost as much as a window."""
+        for size in (WINDOW, WINDOW // 16) if self._at >= self._alone else ():
             window = self._text[self._at:self._at + size]
             for end in (window.rfind("],") + 1, window.rfind(",")):
                 found = _list_of(window[:end]) if end > 0 else None
                 if found:
                     self._at += end
                     return found
+            self._alone = self._at + WINDOW
         return [self.value()]
 
     def names(self) -> Iterator[str]:
@@ -106,22 +117,41 @@ class Reader:
 
     def text(self) -> str:
         """The text that stands here, however long it is."""
-        told, self._at = _scanned(self._text, self._at + 1, True)
-        return str(told)
+        begin, parts, step = self._at, [], SHORT
+        self._at += 1
+        while True:
+            window, step = self._text[self._at:self._at + step], WINDOW
+            end = _signs_of(window)
+            try:
+                told, size = _scanned(f'{window[:end]}"' if end else window, 0, True)
+            except JSONDecodeError as fault:
+                is_open = fault.msg.startswith("Unterminated")
+                raise JSONDecodeError(fault.msg, "", begin if is_open else self._at + fault.pos) from None
+            parts.append(told)
+            self._at += end or size
+            if not end or window[end:end + 1] == '"':
+                self._at += 1 if end else 0
+                return "".join(parts)
 
     def whole(self) -> Any:
         """The value that stands here, in which texts, arrays and objects may be of any length."""
-        sign = self.sign()
+        sign, begin = self.sign(), self._at
         if sign == "{":
+            self._must_be_little(1, begin)
             return {name: self.whole() for name in self.names()}
         if sign == "[":
             found: List[Any] = []
             for some in self.values():
                 found += some
-                if len(found) > MOST_VALUES:
-                    raise TooLarge(f"an array has at most {MOST_VALUES:,} values: ask several times")
+                self._must_be_little(len(found), begin)
+                begin = self._at
             return found
         return self.text() if sign == '"' else self.value()
+
+    def _must_be_little(self, count: int, begin: int) -> None:
+        self._nested += sum(self._text.count(it, begin, self._at + 1) for it in "[{")
+        if count > MOST_VALUES or self._nested > NESTED * MOST_VALUES:
+            raise TooLarge(f"an array has at most {MOST_VALUES:,} values: ask several times")
 
     def skip(self) -> None:
         """Passes over the value that stands here."""
@@ -147,6 +177,13 @@ def _list_of(text: str) -> Optional[List[Any]]:
         return found
     except ValueError:
         return None
+
+
+def _signs_of(window: str) -> int:
+    """How many signs of a text are read by one step, of those from here on."""
+    found: Any = _SIGNS.match(window)
+    end: int = found.end()
+    return end
 
 
 def _is_cut(fault: JSONDecodeError, size: int) -> bool:

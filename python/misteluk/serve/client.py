@@ -8,6 +8,7 @@ from weakref import WeakValueDictionary
 
 from . import wire
 from .alive import Hold
+from .limits import MOST_VALUES
 from .talk import Talk, part
 from ..engine.guard import Guard, alone
 from ..engine.operations import Operations
@@ -95,7 +96,9 @@ class ServedVersion:
         return reached, levels
 
     def found(self, ends: Sequence[Ends]) -> "List[Union[Marks, Denied, None]]":
-        told = wire.loaded(self._ask("found", ends=list(ends)))
+        told: List[Any] = []
+        for at in range(0, max(len(ends), 1), MOST_VALUES):
+            told += wire.loaded(self._ask("found", ends=list(ends[at:at + MOST_VALUES])))
         return [Denied(it) if isinstance(it, str) else it if it is None else (it[0], it[1], it[2]) for it in told]
 
     def edge(self, ends: Ends) -> Optional[Marks]:

@@ -8,7 +8,8 @@ import threading
 import time
 import traceback
 from collections import deque
-from typing import Any, Callable, Deque, Dict, Iterable, List, Mapping, Optional, Sequence, Tuple
+from contextlib import contextmanager
+from typing import Any, Callable, Deque, Dict, Iterable, Iterator, List, Mapping, Optional, Sequence, Tuple
 
 from .board import Board
 from .limits import ServerLimits
@@ -211,34 +212,37 @@ class Feeding:
             finally:
                 self.board.advance()
 
-    def _in_batches(self, found: Sequence[Row]) -> Commit:
+    def _in_batches(self, found: Deque[List[Row]]) -> Commit:
         done: List[Commit] = []
-        for part in parts_of(found, records.MOST_OPERATIONS):
-            try:
-                done.append(self._apply(Operations(part), True))
-            except Denied as fault:
-                first = len(done) * records.MOST_OPERATIONS + 1
-                raise refusal(fault.word, f"the rows before row {first} are in, and none behind it") from None
-        return sum_of(done)
+        with one_by_one(found):
+            while found:
+                try:
+                    done.append(self._apply(Operations(found.popleft()), True))
+                except Denied as fault:
+                    first = len(done) * records.MOST_OPERATIONS + 1
+                    raise refusal(fault.word, f"the rows before row {first} are in, and none behind it") from None
+            return sum_of(done)
 
-    def _records(self, rows: Iterable[Sequence[str]]) -> List[Row]:
-        """The operations of rows, which are looked at as they are read. Raises a `Refused` for the first row that is none; no
-        name is kept then."""
+    def _records(self, rows: Iterable[Sequence[str]]) -> Deque[List[Row]]:
+        """The operations of rows, by batches, which are looked at as they are read. Raises a `Refused` for the first row that is
+        none; no name is kept then."""
         terms, ledger = self.store.ledger.terms, self.store.ledger
-        parts: "List[Tuple[Sequence[Sequence[str]], Optional[List[Row]]]]" = []
+        parts: "Deque[Tuple[Sequence[Sequence[str]], Optional[List[Row]]]]" = deque()
+        found: Deque[List[Row]] = deque()
         count = 0
-        for part in parts_of(rows, records.MOST_OPERATIONS):
+        with one_by_one(parts):
+            for part in parts_of(rows, records.MOST_OPERATIONS):
+                self._must_go_on()
+                seen = _seen_rows(part, terms)
+                parts.append((_checked_rows(part, count + 1, terms), None) if seen is None else ((), seen))
+                count += len(part)
             self._must_go_on()
-            seen = _seen_rows(part, terms)
-            parts.append((_checked_rows(part, count + 1, terms), None) if seen is None else ((), seen))
-            count += len(part)
-        self._must_go_on()
-        found: List[Row] = []
-        for asked, seen in parts:
-            operations = [row_of(terms.turned(fields)[0]) for fields in asked] if seen is None else seen
-            kinds = [it[1] for it in operations] if seen is not None else [it[1] for it in asked if it[0] != "x"]
-            ledger.kinds.update(dict.fromkeys(kinds))
-            found += operations
+            while parts:
+                asked, seen = parts.popleft()
+                operations = [row_of(terms.turned(fields)[0]) for fields in asked] if seen is None else seen
+                kinds = [it[1] for it in operations] if seen is not None else [it[1] for it in asked if it[0] != "x"]
+                ledger.kinds.update(dict.fromkeys(kinds))
+                found.append(operations)
         return found
 
     # What is told, and the end.
@@ -265,6 +269,16 @@ class Feeding:
             self._thread.join()
         with self._lock:  # (which a batch has as long as it is being applied)
             pass
+
+
+@contextmanager
+def one_by_one(parts: Deque[Any]) -> Iterator[None]:
+    """Lets go what is left of the parts, each by itself: to let a million rows go is a step too long for those who wait."""
+    try:
+        yield
+    finally:
+        while parts:
+            parts.popleft()
 
 
 def _told_of_rows(following: Optional[Apart]) -> Dict[str, Any]:

@@ -17,6 +17,8 @@ BYTES_AT_ONCE = 1 << 18
 LITTLE = 1 << 16
 # How many times as long as the longest body all that are read at once may be, and how many rows a post may have.
 BODIES, MOST_ROWS = 8, 1_000_000
+# How many values an array has at most that isn't a post's rows: of so many edges a client asks at once.
+MOST_VALUES = 1 << 16
 # Within how many seconds a connection has to ask something that is let in, and how many that asked nothing yet a peer may have.
 FIRST, STRANGERS = 10.0, 256
 
