@@ -9,7 +9,7 @@ from unittest import mock
 
 from serving import Clock, ServeCase
 
-from misteluk import NoServer, Served, connect
+from misteluk import NoServer, NotAllowed, Served, SessionClosed, StoreError, connect
 from misteluk.serve import alive
 from misteluk.serve.feeding import Rate
 from misteluk.serve.talk import Talk
@@ -55,6 +55,15 @@ class Kept(unittest.TestCase):
                 given = thread.call_args.kwargs
             given["target"](*given["args"])
             self.assertEqual((waits, talk.call.call_args_list), ([every] * 5, [mock.call("PUT", "/v1/sessions/x")] * 4))
+
+    def test_what_ends_it(self):
+        """The server's word that it holds the session no more, and no fault of the way there."""
+        for fault, calls in ((None, 4), (NoServer("x"), 4), (StoreError("x"), 4), (SessionClosed("x"), 1), (NotAllowed("x"), 1)):
+            bell, talk = mock.Mock(), mock.Mock()
+            bell.get.side_effect = [queue.Empty] * 4 + [None]
+            talk.call.side_effect = fault
+            alive._keep(bell, talk, "/v1/sessions/x", 1.0)
+            self.assertEqual((talk.call.call_count, talk.close.call_count), (calls, 1), fault)
 
     def test_rates(self):
         """Rows of the last ten seconds, from the start on over those that there were."""
