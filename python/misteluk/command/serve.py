@@ -96,7 +96,6 @@ def serve(words: argparse.Namespace, how: Dict[str, Any]) -> int:
 
 def ended(server: Server, keeper: Optional[Keeper]) -> int:
     """Tells how far the server came, and gives the status of its process."""
-    server.leave()
     bad = server.feeding.told()["bad"]
     skipped = f"; {bad} bad rows were passed over" if bad else ""
     print(f"misteluk: ended at version {server.board.stat.version}, of {server.board.stat.edges} edges{skipped}", file=sys.stderr)

@@ -123,7 +123,6 @@ class Server:
             raise ValueError("a server has its store in its own process: it takes engine='library'")
         self.limits, self.store, self._keeper = limits.checked(), store, keeper
         self._socket, self.address = address.bound()
-        self._is_left = False
         self.board = Board(store, self.limits)
         self.feeding = Feeding(self.board, self.limits)
         self._runner, self._api = self._made(token, began)
@@ -135,7 +134,7 @@ class Server:
             import uvicorn
             from .app import Api
         except ImportError as fault:
-            self.leave()
+            self._leave()
             raise Missing(f"{str(fault.name).partition('.')[0]}", "a server") from None
         from .direct import Responder, protocol
         from .ending import made
@@ -182,7 +181,7 @@ class Server:
             self.board.let_all_go()
             self._api.close()
             self.board.close()
-            self.leave()
+            self._leave()
 
     def end_feed(self) -> None:
         """Takes no more rows, and saves what is in. It comes before all that may take long at the end, and once more after it."""
@@ -211,11 +210,7 @@ class Server:
         if self._thread is not None:
             self._thread.join()
 
-    def leave(self) -> None:
-        """Listens no more."""
-        if self._is_left:  # (another server may be there by now)
-            return
-        self._is_left = True
+    def _leave(self) -> None:
         self._socket.close()
         if self.address.path:
             try:
