@@ -8,15 +8,12 @@ import time
 import unittest
 from unittest import mock
 
-from serving import HAS_PACKAGES, ServeCase
+from serving import ServeCase
 from support import as_soon_as
 
 import misteluk
-from misteluk.serve import feeding
+from misteluk.serve import bodies, feeding
 from misteluk.serve.limits import ServerLimits
-
-if HAS_PACKAGES:
-    from misteluk.serve import bodies
 
 SIZE = 8 << 20
 CSV, JSON = "text/csv", "application/json"
