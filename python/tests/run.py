@@ -16,10 +16,11 @@ from misteluk import LibraryNotFound, find_library  # noqa: E402
 
 # What is said of a test that is of one engine, and so isn't missed over the other.
 OF_ONE_ENGINE = r"\.\.\. skipped 'of (?:pipes|the library|the program|stores in process) alone'"
-# Files of tests that make no store, or that say themselves over which engine they run: once is enough for them.
-ONCE = ("dates", "fields", "lint", "package", "records", "release", "tables", "types", "ways_in", "serve", "serve_access",
-        "serve_alive", "serve_apart", "serve_clients", "serve_direct", "serve_docs", "serve_door", "serve_end", "serve_faults",
-        "serve_fuzz", "serve_kept", "serve_killed", "serve_page", "serve_pending", "serve_posts", "serve_talk", "serve_versions")
+# Files of tests that make no store, that say themselves over which engine they run, or that interrupt the library's calls.
+ONCE = ("dates", "fields", "interrupted_loads", "interrupts", "lint", "package", "records", "release", "tables", "types",
+        "ways_in", "serve", "serve_access", "serve_alive", "serve_apart", "serve_clients", "serve_direct", "serve_docs",
+        "serve_door", "serve_end", "serve_faults", "serve_fuzz", "serve_kept", "serve_killed", "serve_page", "serve_pending",
+        "serve_posts", "serve_rejects", "serve_talk", "serve_versions")
 # Files of tests that also run over stores that a server has, and what a server needs.
 SERVED = ("arrays", "closing", "names", "objects", "read_only", "store", "units", "view", "view_browsers", "view_dense",
           "walking", "walking_calls")
