@@ -91,6 +91,7 @@ class Shown(Case):
         self.assertEqual(repr(edges[:0]), "<0 edges of 1 kind and 62 names>")
         self.assertEqual(repr(edges.weight), "ReadOnlyArray('q', [0, 1, 2, 3, 4, .., 56, 57, 58, 59, 60]) of 61 numbers")
         self.assertEqual(repr(edges.weight[:2]), "ReadOnlyArray('q', [0, 1])")
+        self.assertEqual([it.__array_interface__["version"] for it in (edges.weight, edges[:0].weight)], [3, 3])
         head = "".join(f"<td>{it}</td>" for it in ("kind", "source", "target", "weight", "first", "recent"))
         self.assertEqual(few.edges_columns()._repr_html_(), f"<table><tr>{head}</tr><tr><td>k</td><td>v</td><td>v00</td>"
                          "<td>0</td><td>1</td><td>1</td></tr></table><p>1 edge of 1 kind and 2 names</p>")

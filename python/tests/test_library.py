@@ -215,9 +215,10 @@ class Choice(Case):
         """One that lacks a function, and one of another interface."""
         with mock.patch.dict(os.environ, {OF_LIBRARY: _ctypes.__file__, making.VARIABLE: ""}):
             self.assertRaisesRegex(misteluk.LibraryNotFound, "has no function misteluk_.*Have MISTELUK_LIBRARY name", Store)
+        here = interface.INTERFACE
         with mock.patch.object(interface, "INTERFACE", 99), mock.patch.dict(calling._OPENED, clear=True), mock.patch.dict(
                 os.environ, {OF_LIBRARY: find_library(), making.VARIABLE: ""}):
-            self.assertRaisesRegex(misteluk.LibraryNotFound, "has interface 1, and this needs 99. Have MISTELUK_LIBRARY", Store)
+            self.assertRaisesRegex(misteluk.LibraryNotFound, f"interface {here}, and this needs 99. Have MISTELUK_LIBRARY", Store)
 
     def test_what_is_said(self):
         self.assertRaisesRegex(ValueError, "engine is 'library' or 'program'", Store, engine="pipes")

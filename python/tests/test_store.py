@@ -85,6 +85,18 @@ class Stores(Case):
         self.assertIn("<td>closed</td>", session._repr_html_())
         self.assertIn("<td>closed</td>", store._repr_html_())
 
+    def test_a_store_that_is_killed(self):
+        store = self.store(*FUNNEL, blocks=64, seats=3)
+        session = store.open()
+        store.remove("transfer", "ana", "funnel")
+        self.assertRegex(repr(store), "^<Store of 64 blocks: 1 of 3 seats open, 1 pending, by .+>$")
+        store.discard()
+        store.kill()
+        self.assertTrue(store.is_closed)
+        self.assertEqual(repr(store), "<Store of 64 blocks: closed>")
+        self.assertRaises(misteluk.StoreError, session.levels, "ana")
+        self.assertRaises(misteluk.StoreError, store.open)
+
     def test_what_a_notebook_shows(self):
         session = self.store("insert k a<b c 5 1").open()
         self.assertEqual(session.degrees()._repr_html_(), (
