@@ -184,6 +184,24 @@ class Stores(Case):
         self.assertEqual(store.commit(batch=6, collect=True), Commit(3, 0, 7, 0, 0, 0, 2))
         self.assertEqual(store.stat().used, 10)
 
+    def test_what_helps_a_batch_of_two(self):
+        store = self.store(*(f"insert k s{it} t 1 1" for it in range(15)), blocks=16)
+        for it in range(15, 17):
+            store.insert("k", f"s{it}", "t", 1, time=1)
+        with self.assertRaises(misteluk.PoolEmpty) as told:
+            store.commit()
+        self.assertRegex(told.exception.advice, r"^Make batches smaller; or give the store more blocks \([\d,]+ at most\)$")
+
+    def test_operations_on_their_way_are_not_discarded(self):
+        store = self.store()
+        store.insert("k", "a", "b", 1, time=1)
+        with mock.patch.object(store.engine, "fly", side_effect=KeyboardInterrupt):
+            self.assertRaises(KeyboardInterrupt, store.commit)
+        store.insert("k", "a", "c", 1, time=1)
+        self.assertEqual((store.discard(), store.pending), (1, 1))
+        store.commit()
+        self.assertEqual([it[2] for it in store.open().edges()], ["b"])
+
     def test_batches_behind_a_refused_one_are_not_sent(self):
         store = self.store(blocks=16)
         for it in range(40):
