@@ -235,6 +235,12 @@ class Limits(Case):
                 store.ledger.apply(Operations(part), True)
                 self.assertEqual(store.stat().used, room.behind[at + len(part)])
 
+    def test_room_of_a_loop_that_comes_again(self):
+        """The loops by which kinds are made known go before the edges, which may be the same loops."""
+        store = self.store("insert k a a 1 1", "insert l a a 1 1")
+        operations = list(copying.operations_of(copying.content_of(store.open().held)))
+        self.assertEqual(list(saving.Room(operations).behind), [0, 1, 0, 1, 0, 1, 2])
+
     def test_a_graph_of_all_blocks(self):
         """Where batches of the usual size need more blocks than there are, they are smaller."""
         operations = [(INSERT, "k", f"s{it}", "t", 1, 1) for it in range(records.MOST_BLOCKS - 10)]
