@@ -109,6 +109,21 @@ def program_of(session):
     return session.store.engine.talk.process.pid
 
 
+class Here:
+    """A client of a cluster whose one worker is a thread of this process."""
+
+    asynchronous = False
+
+    def __init__(self):
+        self.pool = ThreadPoolExecutor(1)
+
+    def ncores(self):
+        return {"here": 1}
+
+    def submit(self, call, *given, pure):
+        return self.pool.submit(call, *given)
+
+
 class Three(Case):
     """Three hundred parts."""
 
@@ -158,6 +173,28 @@ class Three(Case):
         self.assertEqual(fleet.alive, 40)
         self.is_equal(fleet.ask(tables))
         self.assertEqual((fleet.alive, fleet.made_again), (40, []))
+
+    def test_a_part_lets_go_of_its_store(self):
+        """At once where it isn't kept, else when the fleet is closed; and then it is asked no more."""
+        fleet, keys = self.fleet(workers=1, alive=2), list(self.rows)[:3]
+        stores = [store for _, store in fleet.ask(lambda session: session.store, keys=keys)]
+        self.assertEqual([it.is_closed for it in stores], [False, False, True])
+        asked = fleet.ask(tables)
+        next(asked)
+        fleet.close()
+        self.assertEqual([it.is_closed for it in stores], [True] * 3)
+        with self.assertRaises(PartsFailed) as told:
+            list(asked)
+        self.assertEqual({str(it) for it in told.exception.faults.values()}, {"the fleet is closed"})
+
+    def test_a_client_s_workers(self):
+        client = Here()
+        self.addCleanup(client.pool.shutdown)
+        keys = list(self.rows)[:20]
+        self.assertEqual(dict(self.fleet(client=client).ask(tables, keys=keys)), {it: self.wanted[it] for it in keys})
+        for options in ({"workers": 2}, {"alive": 2}):
+            with self.assertRaisesRegex(ValueError, "the client has its workers"):
+                self.fleet(client=client, **options)
 
     @unittest.skipUnless(ENGINE == "program", OF_PIPES)
     def test_programs_killed_in_the_middle_are_made_again(self):

@@ -5,11 +5,13 @@ import socket
 import time
 import unittest
 from http.client import HTTPConnection
+from unittest import mock
 
 from serving import ServeCase
 from support import as_soon_as
 
 from misteluk import StoreError, connect
+from misteluk.serve.door import room_for
 from misteluk.serve.limits import ServerLimits
 
 TOKEN = "secret-token"
@@ -96,6 +98,12 @@ class Doors(ServeCase):
     def begin(self, first=60.0, token=TOKEN, **limits):
         self.serve(token=token, limits=ServerLimits(**limits))
         self.server.door.first = first
+
+    def test_how_many_connections_there_may_be(self):
+        """Those that are wanted, but for what the process may open, of which 256 are for files and pipes."""
+        for most, room in ((resource.RLIM_INFINITY, 100), (10_000, 100), (356, 100), (355, 99), (272, 16), (100, 16)):
+            with mock.patch.object(resource, "getrlimit", return_value=(most, most)):
+                self.assertEqual(room_for(100), room, most)
 
     def test_time_for_a_first_head(self):
         """Neither silence, nor half a head, nor one that comes sign by sign, nor one that isn't let in, keeps a connection."""

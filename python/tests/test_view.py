@@ -217,6 +217,11 @@ class Views(Case):
         self.assertEqual(rows_of(Reader(view(first, "a", beside=store.open()).html), "edges"),
                          [["changed", "a", "b", "0.3", "0.1", "−0.2", "0", "1"]])
 
+    def test_a_kind_that_one_version_has(self):
+        first, last = self.pair(["insert k a b 5 1"], ["insert l a b 7 1"])
+        told = [Reader(view(first, "a", beside=last, kind="l").html).groups(it, "vertex")[-1]["told"] for it in (0, 1)]
+        self.assertEqual([it.rpartition("\n")[2] for it in told], [f"{it} out, 0 in, weight out {7 * it}" for it in (0, 1)])
+
     def test_what_is_refused(self):
         first, last = self.pair(BEFORE, AFTER)
         self.assertRaises(misteluk.NoVertex, view, first, "zed")
@@ -307,6 +312,9 @@ class Views(Case):
         self.assertNotEqual(curves[0].points, curves[1].points[::-1])
         straight = curve((100.0, 270.0), (580.0, 270.0), (6.0, 6.0), 0.0)
         self.assertEqual({round(y, 6) for _, y in straight.points}, {270.0})
+        bent = curve((10.0, 20.0), (130.0, 20.0), (9.0, 6.0), 22.5)  # (from its ends to (70, -25) a triangle has sides 3 : 4 : 5)
+        self.assertEqual(bent[:2], ("M18.0 14.0Q70.0 -25.0 118.5 11.4", "M123.6 15.2L115.2 13.1L119.2 7.7Z"))
+        self.assertEqual(bent.points[0], (70.0, -2.5))
 
     def test_texts_stay_texts(self):
         """Names with markup, quotes and other letters are seen as they are, in texts alone; signs that aren't seen as escapes."""
