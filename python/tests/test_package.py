@@ -177,6 +177,11 @@ class Installs(Case):
                    env={"PATH": "", "HOME": str(self.room), "PYTHONPATH": str(self.there), **env})
         return [*done.stdout.splitlines(), done.returncode]
 
+    def test_the_doctor_knows_proved_crates(self):
+        unknown = "compiled, or of elsewhere: not known to be proved"
+        for place, wanted in (("crates/a/out/a", "proved here"), ("crates/a/bin/a", unknown), ("others/a/out/a", unknown)):
+            self.assertEqual(made(str(self.top / place)), wanted, place)
+
     def test_the_doctor_tells_what_was_proved(self):
         """By the archive's page, which an install writes a note by; and nothing where there is none."""
         for page, wanted in ((None, "not known to be proved"), ("# **UNPROVED.**", "not known to be proved"),
