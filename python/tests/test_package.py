@@ -20,6 +20,7 @@ from support import HERE, TOP, Case, find_program, optional
 import misteluk
 from misteluk import errors, find_library
 from misteluk.command.doctor import made
+from misteluk.engine.interface import INTERFACE
 
 sys.path.insert(0, str(HERE.parent))
 sys.dont_write_bytecode = True
@@ -195,7 +196,8 @@ class Installs(Case):
                 self.install("--upgrade", self.top / "python")
                 found = self.doctor("--engine", "program")
                 self.assertIn(f"program: {self.there}/misteluk/bin/stinger; {self.proved(wanted)}", found)
-                self.assertIn(f"library: {self.there}/misteluk/lib/libmisteluk.so; {self.proved(wanted)}; interface 1", found)
+                library = f"{self.there}/misteluk/lib/libmisteluk.so; {self.proved(wanted)}; interface {INTERFACE}"
+                self.assertIn(f"library: {library}", found)
 
     def proved(self, told: str) -> str:
         return told if told.startswith("proved") else f"compiled, or of elsewhere: {told}"
