@@ -7,6 +7,7 @@ import re
 import shutil
 import signal
 import subprocess
+import sys
 import tempfile
 import time
 import unittest
@@ -71,45 +72,82 @@ class Named(unittest.TestCase):
             (self.room / "built").unlink(missing_ok=True)
             self.script("proved", f'echo proved > "{self.room}/ran"; kill $PPID')
 
-    def gate(self, *words, path=""):
-        """Runs ./check where each of its parts is a script that notes its call, and returns what it said."""
-        noted = f'env | grep ^MISTELUK_ >> "{self.room}/named"; echo "${{0##*/}} $*" >> "{self.room}/parts"'
-        shutil.copy(TOP / "check", self.room / "check")
-        for it in sorted(set(re.findall(r"(?:\./|tools/|examples/|python/)[\w./-]+", (TOP / "check").read_text())) - {"./check"}):
-            self.script(it, noted)
-        self.script("bin/python3", noted)
+    def gate(self, *words, path="", faulty=""):
+        """Runs ./check where each of its parts is a script that notes its call and says so, or the faulty one that it fails."""
+        noted = f'env | grep ^MISTELUK_ >> "{self.room}/named"; echo "${{0#{self.room}/}} $*" | tee -a "{self.room}/parts"'
+        own = {"./check", "tools/side-by-side"}
+        for it in {*own, *re.findall(r"(?:\./|tools/|examples/|python/)[\w./-]+", (TOP / "check").read_text())}:
+            self.script(it, f"{noted}; echo a fault; exit 3" if it == faulty else noted)
+        for it in own:
+            shutil.copy(TOP / it, self.room / it)
+        self.script("bin/python3", f'[ "$1" = -m ] || exec {sys.executable} "$@"; {noted}')
         path = path or f"{self.room}/bin:{os.environ['PATH']}"
         env = {**os.environ, "PATH": path, **{f"MISTELUK_{it}": "/other" for it in ("PROGRAM", "LIBRARY", "ENGINE")}}
         return subprocess.run([self.room / "check", *words], env=env, stdout=subprocess.PIPE, stderr=subprocess.STDOUT, text=True,
                               timeout=60)
 
     def parts(self):
-        return (self.room / "parts").read_text().splitlines()
+        """The parts that have run since this was asked last."""
+        noted = (self.room / "parts").read_text().splitlines()
+        (self.room / "parts").unlink()
+        return noted
 
     def test_the_gate_runs_its_own(self):
         """No part of ./check is given what a variable names."""
         self.script("bin/rt", "echo a kit")
-        for words, first in (((), "gate-times ./prove rt ci"), (("--unproved",), "stinger library")):
+        for words, first in (((), "tools/gate-times ./prove rt ci"), (("--unproved",), "./stinger library")):
             done = self.gate(*words)
             self.assertEqual(done.returncode, 0, done.stdout)
             self.assertIn(first, self.parts())
             self.assertEqual((self.room / "named").read_text(), "")
 
     def test_the_gate_without_proofs(self):
-        """It leaves out the proofs and what is measured of a proved program, says so, and fails where a part of it fails."""
+        """It leaves out the proofs and what is measured of a proved program, and says so."""
         self.script("bin/rt", "echo a kit")
         self.gate()
-        whole, _ = self.parts(), (self.room / "parts").unlink()
+        whole = self.parts()
         done = self.gate("--unproved")
-        self.assertEqual(set(whole) - set(self.parts()), {"gate-times ./prove rt ci", "python3 -m bench run costs"})
+        self.assertEqual(set(whole) ^ set(self.parts()), {"tools/gate-times ./prove rt ci", "bin/python3 -m bench run costs",
+                                                          "./stinger library", "./stinger --version"})
         self.assertRegex(done.stdout, r"all passed in \d+ minutes on \d+ processors\. Nothing was proved: \./check does\n$")
-        for it in ("tools/test_parts", "tools/test_bench.py", "tools/habits.py", "python/check", "stinger"):
-            self.gate()  # (writes each script)
-            self.script(it, "echo a fault; exit 3")
-            failed = subprocess.run([self.room / "check", "--unproved"], stdout=subprocess.PIPE, stderr=subprocess.STDOUT,
-                                    text=True, timeout=60, env={**os.environ, "PATH": f"{self.room}/bin:{os.environ['PATH']}"})
-            self.assertNotEqual(failed.returncode, 0, it)
-            self.assertIn("a fault", failed.stdout)
+
+    def test_a_part_fails_without_proofs(self):
+        """The others run, but for those that come after it, and all that each says is shown."""
+        self.script("bin/rt", "echo a kit")
+        self.gate("--unproved")
+        each = set(self.parts())
+        after_both = {"python/check ", "tools/test_library ", "examples/check "}
+        for faulty, failed, left_out in (
+                ("tools/test_parts", "parts", ()), ("tools/test_bench.py", "bench", ()), ("tools/test_library", "c", ()),
+                ("python/check", "python", ()), ("examples/check", "examples", ()),
+                ("./stinger", "library, program, python (not run), c (not run), examples (not run)", after_both)):
+            done = self.gate("--unproved", faulty=faulty)
+            said = done.stdout.splitlines()
+            self.assertEqual((done.returncode, said[-1]), (1, f"failed: {failed}"))
+            self.assertEqual(each - set(said), set(left_out))
+            ended = f"{failed.partition(',')[0]} FAILED with status 3: "
+            at = next(number for number, line in enumerate(said) if line.startswith(ended))
+            self.assertEqual((said[at - 2].split()[0], said[at - 1]), (faulty, "a fault"))
+        done = self.gate("--unproved", faulty="tools/habits.py")
+        self.assertEqual((done.returncode, done.stdout), (3, "tools/habits.py \na fault\n"))
+
+    def test_a_stop_reaches_what_runs_side_by_side(self):
+        begun = self.room / "begun"
+        slow = self.script("slow", f'trap "echo cleared; exit 4" INT; echo at work; : > "{begun}"; for it in $(seq 900); do '
+                                   "sleep 0.1; done")
+        for number in (signal.SIGINT, signal.SIGTERM, signal.SIGHUP):
+            run = subprocess.Popen([TOP / "tools/side-by-side"], stdin=subprocess.PIPE, stdout=subprocess.PIPE, text=True)
+            run.stdin.write(f"slow: {slow}\nlast after slow: echo last\n")
+            run.stdin.close()
+            while not begun.exists() and run.poll() is None:
+                time.sleep(0.01)
+            run.send_signal(number)
+            with run.stdout:
+                said = run.stdout.read().splitlines()
+            self.assertEqual(run.wait(), 128 + number)
+            self.assertEqual([said[0], said[1], said[2].partition(":")[0], *said[3:]],
+                             ["at work", "cleared", "slow FAILED with status 4", "failed: slow, last (not run)"])
+            begun.unlink()
 
     def test_the_gate_without_the_toolchain(self):
         done = self.gate(path="/usr/bin:/bin")
