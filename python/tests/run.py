@@ -20,7 +20,7 @@ OF_ONE_ENGINE = r"\.\.\. skipped 'of (?:pipes|the library|the program|stores in 
 ONCE = ("dates", "fields", "interrupted_loads", "interrupts", "lint", "package", "records", "release", "tables", "types",
         "ways_in", "serve", "serve_access", "serve_alive", "serve_apart", "serve_clients", "serve_direct", "serve_docs",
         "serve_door", "serve_end", "serve_faults", "serve_fuzz", "serve_kept", "serve_killed", "serve_page", "serve_pending",
-        "serve_posts", "serve_rejects", "serve_talk", "serve_versions")
+        "serve_people", "serve_posts", "serve_rejects", "serve_talk", "serve_versions")
 # Files of tests that also run over stores that a server has, and what a server needs.
 SERVED = ("arrays", "closing", "names", "objects", "read_only", "store", "units", "view", "view_browsers", "view_dense",
           "walking", "walking_calls")

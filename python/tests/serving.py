@@ -14,6 +14,7 @@ from support import ENGINE, HERE, Case, optional
 
 import misteluk
 from misteluk.serve.limits import ServerLimits
+from misteluk.serve.people import People
 from misteluk.serve.server import Server
 
 HAS_PACKAGES = all(map(optional, ("starlette", "uvicorn")))
@@ -51,10 +52,10 @@ class ServeCase(Case):
     """A case with a server."""
 
     def serve(self, listen: str = "127.0.0.1:0", token: Optional[str] = None, limits: ServerLimits = ServerLimits(),
-              batches: Optional[int] = None, **options: Any) -> Server:
+              batches: Optional[int] = None, people: Optional[People] = None, **options: Any) -> Server:
         store = misteluk.Store(seats=16, endless=True, limits=misteluk.Limits(batches=batches), **options)
         self.addCleanup(self.let_go, store)
-        server = Server(store, listen, token=token, limits=limits).start()
+        server = Server(store, listen, people=people or People(token=token), limits=limits).start()
         self.addCleanup(server.stop)
         self.server = server
         return server

@@ -19,7 +19,8 @@ import misteluk
 from misteluk import Busy, Edge, NoSeat, NoServer, NotAllowed, Served, SessionClosed, connect
 from misteluk.command.main import main
 from misteluk.serve.limits import ServerLimits
-from misteluk.serve.server import Address, Server, token_of
+from misteluk.serve.people import People
+from misteluk.serve.server import Address, Server
 
 
 class Clients(ServeCase):
@@ -97,15 +98,15 @@ class Doors(ServeCase):
             for wrong in ("7700", "localhost:", "localhost:99999", ":7700", "unix:", "localhost:x"):
                 self.assertRaisesRegex(ValueError, "an address is", Server, store, wrong)
             for wrong in ("short", "with space", "päßwörter"):
-                self.assertRaisesRegex(ValueError, "a token has", Server, store, "127.0.0.1:0", token=wrong)
+                self.assertRaisesRegex(ValueError, "a token has", People, token=wrong)
         self.assertEqual(Address.of("[::1]:7").url, "http://[::1]:7")
 
     def test_a_token_of_a_file(self):
         path = self.file("token", "open-sesame\n")
         os.chmod(path, 0o644)
-        self.assertRaisesRegex(ValueError, "can be read by others", token_of, path)
+        self.assertRaisesRegex(ValueError, "can be read by others", People, path)
         os.chmod(path, 0o600)
-        self.assertEqual(token_of(path), "open-sesame")
+        self.assertEqual(People(path).known("open-sesame"), ("everyone", "admin"))
 
     def test_a_unix_socket(self):
         """It is its owner's alone from the first; one that a server left is taken, and one that is in use isn't."""

@@ -10,11 +10,14 @@ from typing import Any, Dict, Optional, Tuple
 
 from ..engine.making import LIBRARY
 from ..feeds.feed import STANDARD_INPUT
+from ..serve import log
 from ..serve.door import raise_descriptors
 from ..serve.ending import Deadline
 from ..serve.keeping import USUAL_EVERY, Keeper
 from ..serve.limits import ServerLimits
-from ..serve.server import USUAL, Server, token_of
+from ..serve.log import FORMS
+from ..serve.people import ROLES, People, people_of
+from ..serve.server import USUAL, Server
 from ..store import Store
 from ..values import records
 
@@ -25,7 +28,7 @@ TURN = 0.0005
 # so again and again.
 ROOM = 262_144
 
-# What a signal does while nothing else says so: a terminal that goes ends no server.
+# What a signal does while nothing else says so: a terminal that goes ends no server. (One that runs reads its people anew.)
 SIGNALS: Dict[signal.Signals, Any] = {signal.SIGINT: signal.default_int_handler, signal.SIGTERM: signal.default_int_handler,
                                       signal.SIGHUP: signal.SIG_IGN}
 
@@ -35,8 +38,12 @@ def add_options(parser: argparse.ArgumentParser) -> None:
     listen = parser.add_argument_group("where, and for whom")
     listen.add_argument("--listen", default=USUAL, metavar="ADDRESS", help=f"HOST:PORT, or unix:PATH for a socket that its owner "
                         f"alone may use ({USUAL})")
-    listen.add_argument("--token-file", metavar="PATH", help="a file that has the token which each request must bear; else "
-                        "MISTELUK_TOKEN. An address that other machines reach wants one")
+    listen.add_argument("--token-file", metavar="PATH", help="a file of lines NAME ROLE TOKEN: each request must bear one of the "
+                        f"tokens, whose role ({', '.join(ROLES[1:])}) says what it may ask. SIGHUP has it read anew. A file of "
+                        "one word has a token for everyone; else MISTELUK_TOKEN has. An address that other machines reach wants "
+                        "one")
+    listen.add_argument("--log", choices=FORMS, help="log each request that is refused, each post and each hold on standard "
+                        "error, as text or JSON; else faults alone are logged")
     listen.add_argument("--save", metavar="FILE", help="begin with the version that this file has, if it is there, and save the "
                         "last one in it at intervals and at the end. (A file that is followed is read again, and needs none.)")
     listen.add_argument("--save-every", type=float, default=USUAL_EVERY, metavar="SECONDS", help="how often it is saved, where "
@@ -64,7 +71,11 @@ def serve(words: argparse.Namespace, how: Dict[str, Any]) -> int:
         raise ValueError("a server has its store in its own process, by the library, and runs no program")
     if words.save is not None and words.file not in (None, STANDARD_INPUT):
         raise ValueError("a file that is followed is read again at the start: --save is for rows that a pipe or clients bring")
-    token = token_of(words.token_file)
+    with log.written(words.log):
+        return run(words, how, limits, people_of(words.token_file))
+
+
+def run(words: argparse.Namespace, how: Dict[str, Any], limits: ServerLimits, people: People) -> int:
     with contextlib.ExitStack() as ends:
         for it, done in SIGNALS.items():
             ends.callback(signal.signal, it, signal.signal(it, done))
@@ -73,7 +84,8 @@ def serve(words: argparse.Namespace, how: Dict[str, Any]) -> int:
         ends.enter_context(store)
         store.engine.fit(0, 0, ROOM)
         raise_descriptors()
-        server = Server(store, words.listen, token=token, limits=limits, keeper=keeper, began=began)
+        server = Server(store, words.listen, people=people, limits=limits, keeper=keeper, began=began)
+        signal.signal(signal.SIGHUP, lambda *_: server.read_people())
         deadline = Deadline(lambda: ended(server, keeper))
         sys_turn = sys.getswitchinterval()
         sys.setswitchinterval(TURN)
@@ -82,7 +94,7 @@ def serve(words: argparse.Namespace, how: Dict[str, Any]) -> int:
         gc.freeze()
         try:
             follow(server, words, how)
-            tell(server, words, token)
+            tell(server, words)
             server.run(deadline.begin)
         except KeyboardInterrupt:  # (as a signal ends one that isn't there yet)
             server.end_feed()
@@ -98,7 +110,9 @@ def ended(server: Server, keeper: Optional[Keeper]) -> int:
     """Tells how far the server came, and gives the status of its process."""
     bad = server.feeding.told()["bad"]
     skipped = f"; {bad} bad rows were passed over" if bad else ""
-    print(f"misteluk: ended at version {server.board.stat.version}, of {server.board.stat.edges} edges{skipped}", file=sys.stderr)
+    stat = server.board.stat
+    log.state("ended", f"ended at version {stat.version}, of {stat.edges} edges{skipped}", version=stat.version, edges=stat.edges,
+              bad=bad)
     return int(keeper is not None and bool(keeper.fault))
 
 
@@ -109,7 +123,8 @@ def store_of(words: argparse.Namespace, keeper: Optional[Keeper]) -> Tuple[Store
     store = None if keeper is None else keeper.restored(**options)
     if store is None or keeper is None:
         return Store(**options), "without an edge" if words.file is None else "with its feed"
-    print(f"misteluk: {keeper.path} has {store.stat().edges} edges", file=sys.stderr)
+    edges = store.stat().edges
+    log.state("restored", f"{keeper.path} has {edges} edges", edges=edges)
     return store, keeper.told_of_file()
 
 
@@ -121,7 +136,8 @@ def follow(server: Server, words: argparse.Namespace, how: Dict[str, Any]) -> No
         server.feeding.follow(server.store.follow(words.file, progress=False, **pace, **how))
 
 
-def tell(server: Server, words: argparse.Namespace, token: Optional[str]) -> None:
+def tell(server: Server, words: argparse.Namespace) -> None:
     feed = {None: "the rows that a client posts", STANDARD_INPUT: "standard input"}.get(words.file, words.file)
-    whom = "those that have the token" if token else "this user alone" if server.address.path else "this machine alone"
+    alone = "this user alone" if server.address.path else "this machine alone"
+    whom = "those that have a token" if server.people.are_any else alone
     print(f"misteluk: {server.url} serves {feed}, for {whom}", flush=True)

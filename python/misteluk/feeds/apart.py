@@ -2,6 +2,7 @@
 batch: Python runs one thread at a time, and those who ask the store have theirs."""
 from __future__ import annotations
 
+import logging
 import os
 import pickle
 import subprocess
@@ -22,6 +23,7 @@ from ..engine.operations import Encoded, Numbered, Operations
 from ..errors import StoreError
 from ..values.answers import Commit
 
+LOG = logging.getLogger("misteluk.feeds")
 # For how many seconds a process may be silent that is to stop, and how many may be killed without a batch of theirs going in.
 PATIENCE, TRIES = 30.0, 3
 _CODE = "import sys; said, out, *sys.path = sys.argv[1:]; from misteluk.feeds.reader import main; main(int(said), int(out))"
@@ -151,7 +153,7 @@ class Apart(Iterator[Applied]):
             os.lseek(self._file, self._begin, os.SEEK_SET)
             self._start()
             self.killed, self._in_vain = self.killed + 1, self._in_vain + 1
-        print(f"misteluk: {ended}, and another one reads on", file=sys.stderr)
+        LOG.warning(f"{ended}, and another one reads on")
 
     def _applied(self, parcel: Parcel) -> Applied:
         """Applies a batch."""

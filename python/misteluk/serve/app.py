@@ -12,22 +12,23 @@ from starlette.requests import ClientDisconnect, Request
 from starlette.responses import Response
 from starlette.routing import Route
 
-from . import wire
-from .asking import OF_FEW, Answers, Shortcut
+from . import log, wire
+from .asking import ASK, OF_FEW, Answers, Shortcut
 from .bodies import loaded, rows_of_csv, rows_of_json
 from .board import Board, Full, Lease
 from .faults import told_fault
 from .feeding import Feeding
 from .gate import Run
 from .keeping import Keeper
-from .flow import Pool, Streamed, as_json, first_of, within
+from .flow import CALL, PERSON, Pool, Streamed, as_json, first_of, within
 from .limits import BODIES, LITTLE, ServerLimits, TooLarge
-from .openapi import described
+from .openapi import CALLS, described
 from .page import POLICY, VIEWED
+from .people import Person
 from .questions import AT_ONCE, HELD, QUESTIONS, QUICK, WHOLE, Parameter, ServedQuestion
 from ..engine.protocol import Denied
 from ..page.page import style
-from ..errors import Busy, NoKind, NoMemory, NoVertex, PoolEmpty, Refused, SessionClosed, StoreError
+from ..errors import NotAllowed, StoreError
 
 QUICK_THREADS = 4
 # A date in an address, behind which + and a colon stand as they are: a zone or a time of day.
@@ -37,6 +38,7 @@ TAKEN = "misteluk.taken"
 # How the rows of a post are read.
 ROWS = {"text/csv": rows_of_csv, "application/json": rows_of_json}
 BATCH = Parameter("number", "a batch's number", least=1)
+Handle = Callable[[Request], Any]
 
 
 class Api:
@@ -57,27 +59,27 @@ class Api:
         self._taken = 0
 
     def shortcut(self) -> Shortcut:
-        return Shortcut(self.app(), self._call(self.ask), self.answers, self.limits)
+        return Shortcut(self.app(), self._call(self.ask, ASK), self.answers, self.limits)
 
     def app(self) -> Starlette:
-        call = self._call
         files = [Route(f"/{name}", _file(name or "live.html", media), methods=["GET"]) for name, media in
                  (("", "text/html; charset=utf-8"), ("live.css", "text/css"), ("live.js", "text/javascript"))]
-        asked = [Route(f"/v1/{it.name}", call(self._asking(it)), methods=["GET"]) for it in QUESTIONS]
-        held = [Route("/v1/sessions/{session}/ask", call(self.ask), methods=["POST"]),
-                Route("/v1/sessions", call(self.hold), methods=["POST"]),
-                Route("/v1/sessions/{session}", call(self.keep), methods=["PUT"]),
-                Route("/v1/sessions/{session}", call(self.let_go), methods=["DELETE"])]
-        fed = [Route("/v1/rows", call(self.rows), methods=["POST"]), Route("/v1/feeder", call(self.claim), methods=["POST"]),
-               Route("/v1/feeder/{feeder}", call(self.leave), methods=["DELETE"]),
-               Route("/v1/feeder/{feeder}/batches/{number}", call(self.batch), methods=["POST"]),
-               Route("/v1/feeder/{feeder}/batches/{number}", call(self.landed), methods=["DELETE"])]
-        told = [Route("/v1/stat", call(self.stat), methods=["GET"]),
-                Route("/openapi.json", call(self.description), methods=["GET"])]
+        asked = [Route(f"/v1/{it.name}", self._call(self._asking(it), it.name), methods=["GET"]) for it in QUESTIONS]
         # (routes are looked through in order: those that are asked most come first)
-        app = Starlette(routes=[*held, *asked, *told, *fed, *files], exception_handlers={HTTPException: _no_route})
+        held = [("POST", "/v1/sessions/{session}/ask", self.ask), ("POST", "/v1/sessions", self.hold),
+                ("PUT", "/v1/sessions/{session}", self.keep), ("DELETE", "/v1/sessions/{session}", self.let_go)]
+        others = [("GET", "/v1/stat", self.stat), ("GET", "/v1/sessions", self.sessions), ("POST", "/v1/rows", self.rows),
+                  ("POST", "/v1/feeder", self.claim), ("DELETE", "/v1/feeder/{feeder}", self.leave),
+                  ("POST", "/v1/feeder/{feeder}/batches/{number}", self.batch),
+                  ("DELETE", "/v1/feeder/{feeder}/batches/{number}", self.landed), ("GET", "/openapi.json", self.description)]
+        app = Starlette(routes=[*map(self._route, held), *asked, *map(self._route, others), *files],
+                        exception_handlers={HTTPException: _no_route})
         app.router.redirect_slashes = False
         return app
+
+    def _route(self, call: Tuple[str, str, Handle]) -> Route:
+        method, path, handle = call
+        return Route(path, self._call(handle, handle.__name__, CALLS[path][method].role), methods=[method])
 
     @property
     def is_busy(self) -> bool:
@@ -87,13 +89,16 @@ class Api:
         for it in self._pools:
             it.close()
 
-    def _call(self, handle: Callable[[Request], Any]) -> Callable[[Request], Any]:
-        """A call whose faults are told as JSON."""
+    def _call(self, handle: Handle, name: str, role: str = "read") -> Handle:
+        """A call of those who have a role, whose faults are told as JSON."""
         async def call(request: Request) -> Any:
+            request.scope[CALL] = name
             try:
+                if not request.scope[PERSON].may(role):
+                    raise NotAllowed(f"this call is for those with the role {role}")
                 return await handle(request)
             except (StoreError, Denied, ValueError, TypeError) as fault:
-                return told_fault(fault)
+                return told_fault(fault, request.scope)
             except ClientDisconnect:  # (nobody reads it)
                 return Response(status_code=400)
             finally:
@@ -117,12 +122,12 @@ class Api:
                 if it.is_needed and not given.get(it.name):
                     if it.least is None or it.name not in given:
                         raise ValueError(f"{question.name} is asked with {it.name}: {it.about}")
-            return await self._answered(lambda: self._parts(question, given), question.media, question.way)
+            return await self._answered(lambda: self._parts(question, given, _person(request)), question.media, question.way)
         return handle
 
-    def _parts(self, question: ServedQuestion, given: Dict[str, Any]) -> Iterator[bytes]:
+    def _parts(self, question: ServedQuestion, given: Dict[str, Any], person: Person) -> Iterator[bytes]:
         beside = given.get("beside")
-        with self.board.lent(given.get("session"), given.get("version")) as session:
+        with self.board.lent(given.get("session"), given.get("version"), person) as session:
             if beside is None:
                 yield from question.answer(session, given)
                 return
@@ -162,22 +167,33 @@ class Api:
 
     async def hold(self, request: Request) -> Response:
         version = HELD[1].read(request.query_params["version"]) if "version" in request.query_params else None
-        lease = await self.held.run(lambda: self.board.lease(version), lambda it: self.board.let_go(it.name))
+        person = _person(request)
+        lease = await self.held.run(lambda: self.board.lease(version, person), lambda it: self.board.let_go(it.name))
+        log.note("held", who=person.name, version=lease.shared.version)
         return as_json(_lease(lease, self.limits), 201)
 
+    async def sessions(self, request: Request) -> Response:
+        """The sessions of who asks, and for an admin those of all."""
+        found = await self.quick.run(lambda: self.board.leases(_person(request)))
+        return as_json({"sessions": [it._asdict() for it in found]})
+
     async def keep(self, request: Request) -> Response:
-        lease = await self.held.run(lambda: self.board.keep(request.path_params["session"]))
+        lease = await self.held.run(lambda: self.board.keep(request.path_params["session"], _person(request)))
         return as_json(_lease(lease, self.limits))
 
     async def let_go(self, request: Request) -> Response:
-        await self.held.run(lambda: self.board.let_go(request.path_params["session"]))
+        person = _person(request)
+        lease = await self.held.run(lambda: self.board.let_go(request.path_params["session"], person))
+        if lease.owner.name != person.name:
+            log.note("ended", who=person.name, owner=lease.owner.name, version=lease.shared.version)
         return Response(status_code=204)
 
     async def ask(self, request: Request) -> Any:
         """A question of a client in Python, in the engine's terms."""
         asked = await self._object(request)
         name, call = request.path_params["session"], str(asked.get("call"))
-        return await self._answered(lambda: self.answers.parts(name, asked), wire.COLUMNS, QUICK if call in OF_FEW else WHOLE)
+        return await self._answered(lambda: self.answers.parts(name, asked, _person(request)), wire.COLUMNS,
+                                    QUICK if call in OF_FEW else WHOLE)
 
     # The feed.
 
@@ -187,15 +203,18 @@ class Api:
         read = ROWS.get(request.headers.get("content-type", "").partition(";")[0].strip().lower())
         if read is None:
             raise ValueError("rows are text/csv or application/json, as their Content-Type says")
-        found = read(await self._body(request))
-        return as_json((await self.feed.run(lambda: self.feeding.rows(found, name)))._asdict())
+        found, person = read(await self._body(request)), _person(request)
+        receipt = await self.feed.run(lambda: self.feeding.rows(found, name, person))
+        log.note("posted", who=person.name, version=receipt.version)
+        return as_json(receipt._asdict())
 
     async def claim(self, request: Request) -> Response:
-        feeder = await self.feed.run(self.feeding.claim, lambda it: self.feeding.let_go(it.name))
+        person = _person(request)
+        feeder = await self.feed.run(lambda: self.feeding.claim(person), lambda it: self.feeding.let_go(it.name))
         return as_json({"feeder": feeder.name, "idle": self.limits.idle}, 201)
 
     async def leave(self, request: Request) -> Response:
-        await self.feed.run(lambda: self.feeding.let_go(request.path_params["feeder"]))
+        await self.feed.run(lambda: self.feeding.let_go(request.path_params["feeder"], _person(request)))
         return Response(status_code=204)
 
     async def batch(self, request: Request) -> Response:
@@ -204,13 +223,14 @@ class Api:
         text, texts, collect = given.get("operations"), given.get("texts", {}), bool(given.get("collect", True))
         if not isinstance(text, str) or not isinstance(texts, dict) or not all(isinstance(name, str) for name in texts.values()):
             raise ValueError("a batch has operations, a text, and texts by their ids")
-        records: str = text
-        receipt = await self.feed.run(lambda: self.feeding.batch(seat, number, records, texts, collect))
+        records, person = str(text), _person(request)
+        receipt = await self.feed.run(lambda: self.feeding.batch(seat, number, records, texts, collect, person))
+        log.note("posted", who=person.name, version=receipt.version)
         return as_json(receipt._asdict())
 
     async def landed(self, request: Request) -> Response:
         seat, number = _batch_of(request)
-        receipt = await self.feed.run(lambda: self.feeding.landed(seat, number))
+        receipt = await self.feed.run(lambda: self.feeding.landed(seat, number, _person(request)))
         return as_json({"receipt": None if receipt is None else receipt._asdict()})
 
     # Bodies.
@@ -243,6 +263,12 @@ class Api:
 
 def _lease(lease: Lease, limits: ServerLimits) -> Dict[str, Any]:
     return {"session": lease.name, "version": lease.shared.version, "vertices": lease.shared.session.names, "idle": limits.idle}
+
+
+def _person(request: Request) -> Person:
+    """Who asks."""
+    found: Person = request.scope[PERSON]
+    return found
 
 
 def _batch_of(request: Request) -> Tuple[str, int]:

@@ -11,8 +11,9 @@ from starlette.responses import Response
 from . import wire
 from .board import Board, Full
 from .faults import told_fault
-from .flow import Message, Receive, Send, within
+from .flow import CALL, PERSON, Message, Receive, Send, within
 from .limits import LITTLE, ServerLimits
+from .people import Person
 from ..engine.protocol import Denied
 from ..errors import StoreError
 from ..session import Session
@@ -26,7 +27,7 @@ MOST_HUBS = 10_000
 # The tables of all edges that are kept as they were told, since each client asks for them, and how many bytes one has at most.
 TABLES, MOST_KEPT = ("degrees", "labels", "cores"), 1 << 20
 # Where it is asked.
-ASKED = re.compile(r"/v1/sessions/([^/]+)/ask")
+ASKED, ASK = re.compile(r"/v1/sessions/([^/]+)/ask"), "ask"
 Ask = Callable[[Request], Any]
 
 
@@ -38,10 +39,10 @@ class Answers:
         # Vertices that had too many edges to be answered here: the library counts them all before it says so.
         self._hubs: Set[str] = set()
 
-    def parts(self, name: str, asked: Mapping[str, Any]) -> Iterator[bytes]:
+    def parts(self, name: str, asked: Mapping[str, Any], person: Person) -> Iterator[bytes]:
         """What a client's version answers, part by part."""
         call = str(asked.get("call"))
-        with self._board.lent(name) as session:
+        with self._board.lent(name, None, person) as session:
             parts = wire.asked(session.held, call, asked, self._named)
             if call in TABLES and wire.is_of_all(asked) and wire.WIDEST * session.names <= MOST_KEPT:
                 told = b"".join(parts)
@@ -49,12 +50,12 @@ class Answers:
                 parts = iter([told])
             yield from parts
 
-    def at_once(self, name: str, asked: Any) -> Optional[bytes]:
+    def at_once(self, name: str, asked: Any, person: Person) -> Optional[bytes]:
         """The answer, where that takes little; else `None`."""
         call = asked.get("call") if isinstance(asked, dict) else None
         if self._board.is_busy or call not in OF_FEW and call not in TABLES:
             return None
-        loan = self._board.lend(name)
+        loan = self._board.lend(name, None, person)
         try:
             return self._little(loan[0].session, call, asked)
         finally:
@@ -100,9 +101,10 @@ class Shortcut:
             async with within(self._limits.time, "the request's body doesn't come"):
                 first = await receive()
         except Full as fault:
-            await told_fault(fault)(scope, receive, send)
+            await told_fault(fault, scope)(scope, receive, send)
             return
-        told = self._told(found[1], first)
+        scope[CALL] = ASK
+        told = self._told(found[1], first, scope)
         if isinstance(told, bytes):
             length = str(len(told)).encode("ascii")
             headers = [(b"content-length", length), (b"content-type", wire.COLUMNS.encode("ascii"))]
@@ -113,17 +115,17 @@ class Shortcut:
         answer = told or await self._ask(Request(scope, _again(first, receive), send))
         await answer(scope, receive, send)
 
-    def _told(self, name: str, first: Message) -> "bytes | Response | None":
+    def _told(self, name: str, first: Message, scope: Any) -> "bytes | Response | None":
         """The answer to a request that came whole, or the fault of it; `None` where it is to go the long way."""
         body = first.get("body", b"")
         if first["type"] != "http.request" or first.get("more_body") or len(body) > min(self._limits.body, LITTLE):
             return None
         try:
-            return self._answers.at_once(name, json.loads(body))
+            return self._answers.at_once(name, json.loads(body), scope[PERSON])
         except RecursionError:
             return None
         except (StoreError, Denied, ValueError, TypeError) as fault:
-            return told_fault(fault)
+            return told_fault(fault, scope)
 
 
 def _again(first: Message, receive: Receive) -> Receive:

@@ -10,6 +10,7 @@ from contextlib import contextmanager
 from typing import Any, Callable, Deque, Dict, Iterator, List, NamedTuple, Optional, Tuple
 
 from .limits import ServerLimits
+from .people import EVERYONE, Person
 from ..errors import SessionClosed, StoreError
 from ..session import Session
 from ..store import Store
@@ -43,8 +44,9 @@ class Shared:
 class Lease:
     """One client's hold of a version: when it last was heard of, and how many of its questions are being answered."""
 
-    def __init__(self, shared: Shared, heard: float) -> None:
+    def __init__(self, shared: Shared, heard: float, owner: Person) -> None:
         self.name, self.shared, self.heard, self.asked = secrets.token_urlsafe(15), shared, heard, 0
+        self.owner = owner
 
 
 class HeldVersion(NamedTuple):
@@ -54,6 +56,16 @@ class HeldVersion(NamedTuple):
     vertices: int
     clients: int
     is_last: bool
+
+
+class LeaseTold(NamedTuple):
+    """A session as it is told: whose it is, which version it holds, and for how many seconds nothing was heard of it."""
+
+    session: str
+    owner: str
+    version: int
+    silent: float
+    asked: int
 
 
 class Board:
@@ -107,14 +119,14 @@ class Board:
 
     # What clients hold.
 
-    def lease(self, version: Optional[int] = None) -> Lease:
+    def lease(self, version: Optional[int] = None, person: Person = EVERYONE) -> Lease:
         """A hold of the last version, or of this one, where it is held. Raises `Full` where there are too many."""
         self.sweep()
         with self._locked():
             if len(self._leases) >= self.limits.clients:
                 raise Full("Full", f"there are {self.limits.clients} sessions, which is how many this server allows",
                            self._first_end(self._leases.values()))
-            lease = Lease(self._with_room(self._find(version)), self._clock())
+            lease = Lease(self._with_room(self._find(version)), self._clock(), person)
             self._leases[lease.name] = lease.shared.leases[lease.name] = lease
             return lease
 
@@ -133,23 +145,27 @@ class Board:
             raise SessionClosed(f"version {version} isn't held")
         return self._held[version]
 
-    def keep(self, name: str) -> Lease:
-        """Notes that this client was heard of. Raises `SessionClosed` where its version was let go."""
+    def keep(self, name: str, person: Person = EVERYONE) -> Lease:
+        """Notes that this client was heard of. Raises `SessionClosed` where its version was let go, and `NotAllowed` where it is
+        another's."""
         with self._lock:
-            return self._known(name)
+            return self._known(name, person)
 
-    def _known(self, name: str) -> Lease:
+    def _known(self, name: str, person: Person) -> Lease:
         lease = self._leases.get(name)
         if lease is None:
             raise SessionClosed(f"this server holds no version for this session: its client let it go, was silent for "
                                 f"{self.limits.idle:g} s, or had it of a server before this one")
+        person.must_own(lease.owner, "session")
         lease.heard = self._clock()
         return lease
 
-    def let_go(self, name: str) -> None:
+    def let_go(self, name: str, person: Person = EVERYONE) -> Lease:
         """Lets a client's version go; what is being answered of it is answered to its end."""
         with self._locked():
-            self._end(self._known(name))
+            lease = self._known(name, person)
+            self._end(lease)
+            return lease
 
     def _end(self, lease: Lease) -> None:
         del self._leases[lease.name], lease.shared.leases[lease.name]
@@ -178,19 +194,21 @@ class Board:
         return self._lock.locked()
 
     @contextmanager
-    def lent(self, name: Optional[str] = None, version: Optional[int] = None) -> "Iterator[Session[Any, Any]]":
+    def lent(self, name: Optional[str] = None, version: Optional[int] = None,
+             person: Person = EVERYONE) -> "Iterator[Session[Any, Any]]":
         """The session of a client, or that of a version, or of the last one, for as long as a question takes. What it lets go
         others close: the next commit, or `sweep`."""
-        loan = self.lend(name, version)
+        loan = self.lend(name, version, person)
         try:
             yield loan[0].session
         finally:
             self.take_back(*loan)
 
-    def lend(self, name: Optional[str] = None, version: Optional[int] = None) -> "Tuple[Shared, Optional[Lease]]":
+    def lend(self, name: Optional[str] = None, version: Optional[int] = None,
+             person: Person = EVERYONE) -> "Tuple[Shared, Optional[Lease]]":
         """The same until `take_back`."""
         with self._lock:
-            lease = None if name is None else self._known(name)
+            lease = None if name is None else self._known(name, person)
             shared = self._find(version) if lease is None else lease.shared
             shared.asked += 1
             if lease is not None:
@@ -211,6 +229,14 @@ class Board:
         with self._lock:
             return [HeldVersion(it.version, it.session.names, len(it.leases), it is self._last)
                     for it in sorted(self._held.values(), key=lambda it: it.version)]
+
+    def leases(self, person: Person) -> List[LeaseTold]:
+        """The sessions of a person, or all for an admin, those first that were silent for the longest."""
+        with self._lock:
+            now = self._clock()
+            found = [LeaseTold(it.name, it.owner.name, it.shared.version, round(now - it.heard, 1), it.asked)
+                     for it in self._leases.values() if person.may("admin") or it.owner.name == person.name]
+        return sorted(found, key=lambda it: -it.silent)
 
     def _first_end(self, leases: Any) -> int:
         """In how many seconds the first of these leases ends, if its client stays silent."""

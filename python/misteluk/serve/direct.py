@@ -7,13 +7,15 @@ from __future__ import annotations
 
 import json
 import re
+from time import perf_counter
 from typing import Any, Callable, Dict, List, NamedTuple, Optional, Tuple
 
 from . import wire
-from .asking import ASKED, Answers
+from .asking import ASK, ASKED, Answers
 from .door import AtDoor, Door
 from .gate import Gate
 from .limits import LITTLE, ServerLimits
+from .people import Person
 
 # A head but for its length, which is its last line: where it is asked, and headers by names that are known.
 _FIRST = re.compile(rb"POST (/v1/sessions/[A-Za-z0-9_-]+/ask) HTTP/1\.1")
@@ -24,6 +26,13 @@ _read = json.JSONDecoder().raw_decode
 # What is used of uvicorn's protocol, as it is made: one of another version may have it under other names, and reads all then.
 _CALLS = ("data_received", "on_message_begin", "on_message_complete", "timeout_keep_alive_handler")
 _STATE = ("loop", "transport", "flow", "cycle", "server_state", "timeout_keep_alive")
+
+
+class Asked(NamedTuple):
+    """Which session a request asks, and who does."""
+
+    session: str
+    person: Person
 
 
 class Request(NamedTuple):
@@ -54,30 +63,38 @@ def headers_of(head: bytes) -> "Optional[Tuple[str, List[Tuple[bytes, bytes]]]]"
 
 
 class Responder:
-    """What little questions are answered by. The gate looks at each head; one that it let in it lets in each time."""
+    """What little questions are answered by. The gate looks at each head; one that it let in it lets in each time, as long as the
+    server's people are the same."""
 
     def __init__(self, gate: Gate, answers: Answers, limits: ServerLimits) -> None:
         self._gate, self._answers, self._most = gate, answers, min(limits.body, LITTLE)
         self._headers = [*gate.headers, (b"content-type", wire.COLUMNS.encode("ascii"))]
+        self._spread = gate.counts.spread(ASK)
 
-    def session_of(self, head: bytes) -> Optional[str]:
-        """The session that a request with this head asks, where it is let in."""
+    @property
+    def changes(self) -> int:
+        return self._gate.people.changes
+
+    def asked_of(self, head: bytes) -> Optional[Asked]:
+        """The session that a request with this head asks, and who does, where it is let in."""
         found = headers_of(head)
-        if found is None or self._gate.refused(*found) is not None:
-            return None
-        asked = ASKED.fullmatch(found[0])
-        return None if asked is None else str(asked[1])
+        person = None if found is None else self._gate.asks(*found)
+        asked = None if found is None else ASKED.fullmatch(found[0])
+        return Asked(str(asked[1]), person) if asked is not None and isinstance(person, Person) else None
 
-    def told(self, session: str, body: bytes) -> Optional[bytes]:
+    def told(self, asked: Asked, body: bytes) -> Optional[bytes]:
         """The answer, where the question is a little one that has no fault."""
         if len(body) > self._most:
             return None
         try:
-            text = body.decode("ascii")
-            asked, end = _read(text)
-            return self._answers.at_once(session, asked) if end == len(text) else None
+            began, text = perf_counter(), body.decode("ascii")
+            given, end = _read(text)
+            told = self._answers.at_once(asked.session, given, asked.person) if end == len(text) else None
         except Exception:  # (uvicorn's way tells it)
             return None
+        if told is not None:
+            self._spread.add(perf_counter() - began)
+        return told
 
     def head(self, more: "List[Tuple[bytes, bytes]]") -> bytes:
         """The head of each answer, with more headers, to its length."""
@@ -96,7 +113,8 @@ class Direct(_Protocol):  # type: ignore[misc]
     door: Door
     is_known, is_amid, heard = False, False, 0.0
     head = b""
-    session: Optional[str] = None
+    asked: Optional[Asked] = None
+    changes = 0
     dated: Any = None
     begin = b""
     timeout_keep_alive_task: Any = None
@@ -130,9 +148,10 @@ class Direct(_Protocol):  # type: ignore[misc]
         request = whole(data)
         if request is None:
             return None
-        if request.head != self.head:
-            self.head, self.session = request.head, self.responder.session_of(request.head)
-        return None if self.session is None else self.responder.told(self.session, request.body)
+        if request.head != self.head or self.changes != self.responder.changes:
+            self.changes, self.head = self.responder.changes, request.head
+            self.asked = self.responder.asked_of(request.head)
+        return None if self.asked is None else self.responder.told(self.asked, request.body)
 
     def on_message_begin(self) -> None:
         self.is_amid = True

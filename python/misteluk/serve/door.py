@@ -42,6 +42,8 @@ class Door:
         # Those of which nothing was let in yet, the oldest first, with the timer of each; and how many of them a peer has.
         self._strangers: Dict[Any, Any] = {}
         self._of_peer: "Counter[Optional[str]]" = Counter()
+        # How many were refused for lack of room.
+        self.refused = 0
 
     def enter(self, transport: Any, loop: Any) -> bool:
         """Takes a connection, and says whether there is room for it."""
@@ -50,6 +52,7 @@ class Door:
             self._refuse(next(it for it in self._strangers if self._there[it] == peer))
         if len(self._there) >= self.most:
             if not self._strangers:
+                self.refused += 1
                 return False
             self._refuse(next(iter(self._strangers)))
         self._there[transport] = peer
@@ -76,6 +79,7 @@ class Door:
         transport.abort()
 
     def _refuse(self, transport: Any) -> None:
+        self.refused += 1
         self.leave(transport)
         transport.write(REFUSED)
         transport.close()

@@ -1,16 +1,16 @@
 """Faults as a client is told them."""
 from __future__ import annotations
 
-from typing import Any, Dict, Tuple
+from typing import Any, Dict, MutableMapping, Tuple
 
 from starlette.responses import Response
 
 from . import wire
 from .board import Full
-from .flow import as_json
+from .flow import WORD, as_json
 from .limits import TooLarge
 from ..engine.protocol import Denied
-from ..errors import Busy, NoKind, NoMemory, NoVertex, PoolEmpty, Refused, SessionClosed, StoreError
+from ..errors import Busy, NoKind, NoMemory, NotAllowed, NoVertex, PoolEmpty, Refused, SessionClosed, StoreError
 
 # What is told of names that a version doesn't have.
 REASONS = {"NoVertex": "the version has no vertex of this name; a later one may",
@@ -19,8 +19,9 @@ REASONS = {"NoVertex": "the version has no vertex of this name; a later one may"
 NO_ROOM = ("PoolEmpty", "NamesFull", "KindsFull", "BatchLimit")
 
 
-def told_fault(fault: Exception) -> Response:
-    """A fault as a client is told it."""
+def told_fault(fault: Exception, scope: MutableMapping[str, Any]) -> Response:
+    """A fault as a client is told it, whose request notes its word."""
+    scope[WORD] = "TooLarge" if isinstance(fault, TooLarge) else _status(fault)[1]
     if isinstance(fault, Full):
         return as_json(wire.fault(fault.word, str(fault), fault.after), 503, {"retry-after": str(fault.after)})
     if isinstance(fault, TooLarge):
@@ -44,4 +45,6 @@ def _status(fault: Exception) -> Tuple[int, str]:
         return 409, word
     if isinstance(fault, NoMemory):
         return 503, word
+    if isinstance(fault, NotAllowed):
+        return 403, word
     return 400, word if isinstance(fault, (StoreError, Denied)) else "BadRequest"

@@ -1,18 +1,18 @@
 """The one who feeds a server's store: a file that is followed, standard input, or a client that posts rows."""
 from __future__ import annotations
 
-import re
 import secrets
-import sys
 import threading
 import time
-import traceback
 from collections import deque
 from contextlib import contextmanager
 from typing import Any, Callable, Deque, Dict, Iterable, Iterator, List, Mapping, Optional, Sequence, Tuple
 
+from . import log
 from .board import Board
 from .limits import ServerLimits
+from .log import without_paths
+from .people import EVERYONE, Person
 from ..engine.operations import COMMANDS as OF_RECORDS, Operations, Row, row_of
 from ..engine.protocol import Denied
 from ..errors import Busy, SessionClosed, StoreError, refusal
@@ -29,8 +29,6 @@ from ..values.terms import Terms
 COMMANDS = {"insert": "i", "add": "a", "remove": "r", "expire": "x"}
 # Of how many clients that fed before it is remembered what their last batch did.
 FEEDERS = 100
-# How many characters of what ended a feed are told.
-MOST_REASON = 2_000
 # How many signs a record of an operation has at most: three names within quotes, each sign twice, and two numbers.
 LONGEST = 3 * (2 * records.MOST_NAME + 2) + 2 * 20 + 6
 # Over how many seconds the feed's rate is told.
@@ -61,8 +59,8 @@ class Rate:
 class Feeder:
     """A client's seat as the one that feeds: the number of its last batch, and what that did."""
 
-    def __init__(self, heard: float) -> None:
-        self.name, self.heard, self.number = secrets.token_urlsafe(15), heard, 0
+    def __init__(self, heard: float, owner: Person) -> None:
+        self.name, self.heard, self.number, self.owner = secrets.token_urlsafe(15), heard, 0, owner
         self.receipt: Optional[Commit] = None
 
 
@@ -107,9 +105,8 @@ class Feeding:
     def _failed(self, following: Apart, fault: BaseException) -> None:
         self.fault, self.reason = getattr(fault, "word", "") or type(fault).__name__, without_paths(str(fault), following.name)
         self.state = "failed"
-        print(f"misteluk: the feed ended: {fault}", file=sys.stderr)
-        if not isinstance(fault, (StoreError, ValueError, OSError)):
-            traceback.print_exception(type(fault), fault, fault.__traceback__)
+        is_meant = isinstance(fault, (StoreError, ValueError, OSError))
+        log.fault(f"the feed ended: {fault}", None if is_meant else fault, f"the feed ended: {self.reason}")
         self.store.discard()
         self.board.advance()
 
@@ -119,7 +116,7 @@ class Feeding:
     def _is_followed(self) -> bool:
         return self.state == "followed"
 
-    def claim(self) -> Feeder:
+    def claim(self, person: Person = EVERYONE) -> Feeder:
         """The seat. Raises `Busy` where it is taken, but by a client that was silent too long."""
         with self._lock:
             self._must_go_on()
@@ -128,23 +125,24 @@ class Feeding:
             if self._feeder is not None and self._feeder.heard > self._clock() - self.limits.idle:
                 raise Busy("another client feeds this store")
             self._leave()
-            self._feeder = Feeder(self._clock())
+            self._feeder = Feeder(self._clock(), person)
             return self._feeder
 
     def _must_go_on(self) -> None:
         if self._is_over:
             raise Busy("this server ends, and takes no more rows: ask the next one")
 
-    def _known(self, name: str) -> Feeder:
+    def _known(self, name: str, person: Person = EVERYONE) -> Feeder:
         if self._feeder is None or self._feeder.name != name:
             raise SessionClosed(f"this client doesn't feed the store any more: it gave its seat back, or was silent for "
                                 f"{self.limits.idle:g} s")
+        person.must_own(self._feeder.owner, "seat")
         self._feeder.heard = self._clock()
         return self._feeder
 
-    def let_go(self, name: str) -> None:
+    def let_go(self, name: str, person: Person = EVERYONE) -> None:
         with self._lock:
-            self._known(name)
+            self._known(name, person)
             self._leave()
 
     def _leave(self) -> None:
@@ -152,10 +150,11 @@ class Feeding:
             self._before.append(self._feeder)
         self._feeder = None
 
-    def batch(self, name: str, number: int, text: str, texts: Mapping[str, str], collect: bool) -> Commit:
+    def batch(self, name: str, number: int, text: str, texts: Mapping[str, str], collect: bool,
+              person: Person = EVERYONE) -> Commit:
         """Applies a batch of records in the engine's terms, once for each number. `texts` has those of ids."""
         with self._lock:
-            feeder = self._known(name)
+            feeder = self._known(name, person)
             if feeder.number != number:
                 self._must_go_on()
                 operations = checked_operations(text)
@@ -166,14 +165,15 @@ class Feeding:
                 raise SessionClosed(f"batch {number} was given up")
             return feeder.receipt
 
-    def landed(self, name: str, number: int) -> Optional[Commit]:
+    def landed(self, name: str, number: int, person: Person = EVERYONE) -> Optional[Commit]:
         """What the batch of this number did, also where the client has lost its seat by now; `None` where it didn't come, and
         then it can't any more."""
         with self._lock:
             before = next((it for it in self._before if it.name == name), None)
             if before is not None:
+                person.must_own(before.owner, "seat")
                 return before.receipt if before.number == number else None
-            feeder = self._known(name)
+            feeder = self._known(name, person)
             if feeder.number != number:
                 feeder.receipt, feeder.number = None, number
             return feeder.receipt
@@ -196,14 +196,14 @@ class Feeding:
 
     # Rows in the user's terms.
 
-    def rows(self, rows: Iterable[Sequence[str]], name: Optional[str] = None) -> Commit:
+    def rows(self, rows: Iterable[Sequence[str]], name: Optional[str] = None, person: Person = EVERYONE) -> Commit:
         """Applies rows, each an operation's word and fields, in batches; all of them are checked before. Raises `Busy` where
         another feeds the store."""
         with self._lock:
             if name is None:
-                self.let_go(self.claim().name)
+                self.let_go(self.claim(person).name)
             else:
-                self._known(name)
+                self._known(name, person)
             found = self._records(rows)
             if not found:
                 raise ValueError("there are no rows")
@@ -249,13 +249,13 @@ class Feeding:
 
     def told(self) -> Dict[str, Any]:
         """Who feeds the store, and how fast."""
-        state = self.state
+        state, by = self.state, {}
         if self._feeder is not None and self._feeder.heard > self._clock() - self.limits.idle and not self._is_followed:
-            state = "a client feeds"
+            state, by = "a client feeds", {"by": self._feeder.owner.name}
         following = self._following
         is_half, killed = (False, 0) if following is None else (following.ended_half, following.killed)
         is_replaced = following is not None and self._is_followed and following.is_replaced
-        return {"state": state, "rows": self.rate.total, "rows_a_second": round(self.rate.a_second(), 1),
+        return {"state": state, **by, "rows": self.rate.total, "rows_a_second": round(self.rate.a_second(), 1),
                 "bad": 0 if following is None else following.place.bad, "expired": self.expired, **_told_of_rows(following),
                 **({"half_line": True} if is_half else {}), **({"readers_killed": killed} if killed else {}),
                 **({"replaced": True} if is_replaced else {}),
@@ -288,13 +288,6 @@ def _told_of_rows(following: Optional[Apart]) -> Dict[str, Any]:
     last, behind = following.last_bad, following.behind
     told = None if last is None else {"line": last.line, "reason": without_paths(last.reason, following.name)}
     return {**({} if told is None else {"last_bad": told}), **({} if behind is None else {"behind": behind})}
-
-
-def without_paths(text: str, name: str, told: str = "the feed") -> str:
-    """What is told of a feed or file of this name, as a client may know it: without places of this machine."""
-    text = re.sub(rf"{re.escape(name)}:(\d+)", r"line \1", text).replace(name, told)
-    text = re.sub(r"(?<![\w.,;/])(?:~|\.{1,2})?/[^\s:'\",;]+", "..", text)
-    return text if len(text) <= MOST_REASON else f"{text[:MOST_REASON]} .."
 
 
 def checked_operations(text: str) -> Operations:

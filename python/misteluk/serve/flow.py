@@ -18,6 +18,8 @@ R = TypeVar("R")
 Message = MutableMapping[str, Any]
 Send = Callable[[Message], Awaitable[None]]
 Receive = Callable[[], Awaitable[Message]]
+# What a request notes: who asks, by which call, and the word of the fault that it was told.
+PERSON, CALL, WORD = "misteluk.person", "misteluk.call", "misteluk.word"
 # How many questions may wait for each that is answered.
 WAITING = 100
 

@@ -3,15 +3,14 @@ from __future__ import annotations
 
 import fcntl
 import os
-import sys
 import threading
 import time
-import traceback
 from datetime import datetime, timezone
 from typing import IO, Any, Dict, Optional
 
+from . import log
 from .board import Board
-from .feeding import without_paths
+from .log import without_paths
 from ..errors import StoreError
 from ..files import place_of
 from ..store import Store
@@ -80,9 +79,8 @@ class Keeper:
     def _failed(self, fault: Exception) -> None:
         self.reason = without_paths(str(fault), self.path, "the file")
         self.fault = getattr(fault, "word", "") or type(fault).__name__
-        print(f"misteluk: the version isn't saved: {fault}", file=sys.stderr)
-        if not isinstance(fault, (StoreError, OSError)):
-            traceback.print_exception(type(fault), fault, fault.__traceback__)
+        is_meant = isinstance(fault, (StoreError, OSError))
+        log.fault(f"the version isn't saved: {fault}", None if is_meant else fault, f"the version isn't saved: {self.reason}")
 
     def told(self) -> Dict[str, Any]:
         """The version that the file has, and how many seconds ago it was the last one; `None` where there is no file yet."""

@@ -5,16 +5,17 @@ import os
 import secrets
 import socket
 import stat
-import sys
 import threading
-import traceback
 from typing import Any, Callable, List, NamedTuple, Optional
 
+from . import log
 from .board import Board
 from .door import Door, room_for
 from .feeding import Feeding
 from .keeping import Keeper
 from .limits import LOOPBACK, ServerLimits
+from .metrics import Counts
+from .people import People
 from ..errors import Missing, StoreError
 from ..store import Store
 
@@ -112,23 +113,21 @@ def _is_left(path: str) -> bool:
 class Server:
     """A store that is served. `start` begins to answer, in a thread of its own; `run` does so in this one, until it is ended."""
 
-    def __init__(self, store: "Store[Any, Any]", listen: str = USUAL, *, token: Optional[str] = None,
+    def __init__(self, store: "Store[Any, Any]", listen: str = USUAL, *, people: Optional[People] = None,
                  limits: ServerLimits = ServerLimits(), keeper: Optional[Keeper] = None, began: str = "without an edge") -> None:
-        address = Address.of(listen)
-        if token is None and not address.is_of_here:
+        address, self.people = Address.of(listen), people or People()
+        if not self.people.are_any and not address.is_of_here:
             raise ValueError(f"{listen} can be reached from other machines: that wants a token (--token-file)")
-        if token is not None and (len(token) < 8 or not token.isascii() or not token.isprintable() or " " in token):
-            raise ValueError("a token has at least 8 printable ASCII signs, and no space")
         if store.engine.name != "library":
             raise ValueError("a server has its store in its own process: it takes engine='library'")
         self.limits, self.store, self._keeper = limits.checked(), store, keeper
         self._socket, self.address = address.bound()
         self.board = Board(store, self.limits)
-        self.feeding = Feeding(self.board, self.limits)
-        self._runner, self._api = self._made(token, began)
+        self.feeding, self.counts = Feeding(self.board, self.limits), Counts()
+        self._runner, self._api = self._made(began)
         self._thread: Optional[threading.Thread] = None
 
-    def _made(self, token: Optional[str], began: str) -> Any:
+    def _made(self, began: str) -> Any:
         """What runs the app, and the app."""
         try:
             import uvicorn
@@ -142,7 +141,7 @@ class Server:
         run = Run(secrets.token_urlsafe(9), began)
         api = Api(self.board, self.feeding, self.limits, run, self._keeper)
         self.door = Door(room_for(self.limits.clients + CONNECTIONS))
-        gate = Gate(api.shortcut(), token, bool(self.address.path), run, self.door)
+        gate = Gate(api.shortcut(), self.people, bool(self.address.path), run, self.door, self.counts)
         config = uvicorn.Config(gate, http=protocol(Responder(gate, api.answers, self.limits), self.door), log_level="critical",
                                 access_log=False, lifespan="off", server_header=False, proxy_headers=False, backlog=AT_ONCE,
                                 timeout_keep_alive=int(self.limits.idle) + 5)
@@ -183,6 +182,13 @@ class Server:
             self.board.close()
             self._leave()
 
+    def read_people(self) -> None:
+        """Reads the people anew. Where their file has a fault, those that are known stay."""
+        try:
+            log.note("read", tokens=self.people.read_again())
+        except (OSError, ValueError) as caught:
+            log.fault(f"the tokens stay as they were: {caught}")
+
     def end_feed(self) -> None:
         """Takes no more rows, and saves what is in. It comes before all that may take long at the end, and once more after it."""
         self.feeding.close()
@@ -196,8 +202,8 @@ class Server:
                 self.board.sweep()
             except StoreError:  # (the store was closed)
                 return
-            except Exception:
-                traceback.print_exc(file=sys.stderr)
+            except Exception as fault:
+                log.fault("sessions that were silent aren't let go", fault)
 
     def start(self) -> "Server":
         self._thread = threading.Thread(target=self.run, name="server")
@@ -225,15 +231,4 @@ class Server:
         self.stop()
 
 
-def token_of(path: Optional[str]) -> Optional[str]:
-    """The token that a file has, or else the variable MISTELUK_TOKEN; or none. Raises `ValueError` for a file that others may
-    read."""
-    if path is None:
-        return os.environ.get("MISTELUK_TOKEN") or None
-    with open(path, encoding="ascii") as file:
-        if os.fstat(file.fileno()).st_mode & 0o077:
-            raise ValueError(f"{path} can be read by others: chmod 600 {path}")
-        return file.read().strip()
-
-
-__all__: List[str] = ["Address", "ServerLimits", "Server", "token_of"]
+__all__: List[str] = ["Address", "ServerLimits", "Server"]
