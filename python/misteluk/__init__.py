@@ -14,7 +14,7 @@ from .engine.finding import find_library, find_program
 from .errors import (AlreadyOpen, BadCommand, BadFields, BadName, BadRows, BadSlot, BadTime, BadWeight, BadWindow, BatchFull,
                      BatchLimit, Busy, FeedFault, Incomplete, KindsFull, LeftOut, LibraryNotFound, Misread, Missing, NamesFull,
                      NearLimit, NoAnswer, NoKind, NoMemory, NoSeat, NoServer, NotAllowed, NotOpen, NotRenewed, NoVertex,
-                     OperationsRefused, OutOfMemory, OverLimit, PartsFailed, Place, PoolEmpty, ProgramEnded, ProgramNotFound,
+                     OperationsRefused, OutOfMemory, OverLimit, Place, PoolEmpty, ProgramEnded, ProgramNotFound,
                      RecordLimit, Refused, SaveFault, SessionClosed, StoreError, TooLarge, Uncommitted)
 from .feeds.delimited import delimited
 from .feeds.feed import Columns, Feed, matrix_market, snap
@@ -25,9 +25,9 @@ from .feeds.opening import ReadAs, open_feed
 from .feeds.rejects import Rejected
 from .feeds.steps import Followed
 from .feeds.surveys import Survey, survey
-from .fleet.fleet import Fleet
 from .lint import lint
 from .page.view import View, view
+from .part import Part
 from .saving import Saved
 from .serve.awaited import AwaitedSession, connect_async
 from .serve.client import Served, connect
@@ -40,7 +40,7 @@ from .version import VERSION as __version__
 
 # What there is, in the order in which a newcomer meets it.
 __all__ = [
-    "Store", "Session", "Fleet", "Limits", "connect", "connect_async", "Served", "AwaitedSession",
+    "Store", "Session", "Part", "Limits", "connect", "connect_async", "Served", "AwaitedSession",
     "load", "survey", "load_in_steps", "Loaded", "Survey", "follow", "Following", "Followed", "Rejected",
     "Columns", "ReadAs", "Feed", "open_feed", "delimited", "snap", "matrix_market",
     "from_networkx", "from_pandas", "from_columns", "from_rows",
@@ -50,6 +50,6 @@ __all__ = [
     "StoreError", "Refused", "Place", "AlreadyOpen", "BadCommand", "BadFields", "BadName", "BadRows", "BadSlot", "BadTime",
     "BadWeight", "BadWindow", "BatchFull", "BatchLimit", "Busy", "FeedFault", "Incomplete", "KindsFull", "LeftOut",
     "LibraryNotFound", "Misread", "Missing", "NamesFull", "NearLimit", "NoAnswer", "NoKind", "NoMemory", "NoSeat", "NoServer",
-    "NotAllowed", "NoVertex", "NotOpen", "NotRenewed", "OperationsRefused", "OutOfMemory", "OverLimit", "PartsFailed",
+    "NotAllowed", "NoVertex", "NotOpen", "NotRenewed", "OperationsRefused", "OutOfMemory", "OverLimit",
     "PoolEmpty", "ProgramEnded", "ProgramNotFound", "RecordLimit", "SaveFault", "SessionClosed", "TooLarge", "Uncommitted",
 ]

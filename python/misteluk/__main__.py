@@ -1,4 +1,4 @@
-"""python -m misteluk load | fleet | restore | follow | serve | lint | picture | doctor"""
+"""python -m misteluk load | restore | follow | serve | lint | picture | doctor"""
 import sys
 
 from .command.main import main

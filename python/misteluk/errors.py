@@ -2,15 +2,12 @@
 from __future__ import annotations
 
 import importlib
-from typing import TYPE_CHECKING, Any, Dict, List, Mapping, NamedTuple, Optional, Sequence, Tuple, Type
+from typing import TYPE_CHECKING, Any, Dict, List, NamedTuple, Optional, Sequence, Tuple, Type
 
 from .values.records import Fault
 
 if TYPE_CHECKING:
     from .values.answers import Commit
-
-# How many parts of a fleet are told of that gave no answer.
-MOST_TOLD = 10
 
 
 class StoreError(Exception):
@@ -324,27 +321,6 @@ class Misread(StoreError):
 
 class Incomplete(StoreError):
     """The client doesn't know all edges of a version: the program says that it has others than those that it was asked for."""
-
-
-class PartsFailed(StoreError):
-    """Parts of a fleet gave no answer: `faults` has what each of them raised, by its key. The others have answered."""
-
-    def __init__(self, parts: int, faults: Mapping[str, BaseException]) -> None:
-        self.faults = dict(faults)
-        told = [f"part {key!r}: {_told(it)}" for key, it in list(self.faults.items())[:MOST_TOLD]]
-        more = len(self.faults) - len(told)
-        told += [f"and {more} more"] if more else []
-        if any(isinstance(it, (NoVertex, NoKind)) for it in self.faults.values()):
-            told.append("A part without the name or kind answers what unknown= says, where that is said")
-        super().__init__("\n  ".join([f"{len(self.faults)} of {parts} parts gave no answer", *told]))
-
-
-def _told(fault: BaseException) -> str:
-    """What a part raised: its name, where its text doesn't begin with it; of another package's error the first line."""
-    if isinstance(fault, Refused):
-        return str(fault)
-    text = str(fault) if isinstance(fault, StoreError) else str(fault).partition("\n")[0]
-    return f"{type(fault).__name__}: {text}"
 
 
 class Missing(StoreError, ImportError):

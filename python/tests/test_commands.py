@@ -1,4 +1,4 @@
-"""python -m misteluk: load, fleet, lint, picture. Values are worked out by hand."""
+"""python -m misteluk: load, lint, picture. Values are worked out by hand."""
 import argparse
 import fcntl
 import gzip
@@ -202,40 +202,10 @@ class Commands(CommandCase):
         status, _, err = self.run_it("load", path, *OF_PAIRS, "--add", "--blocks", "16")
         self.assertIn("and the store was made with 16; nothing was sent", err)
 
-    def test_a_fleet(self):
-        path, asked = self.file("p.csv", PAIRS), ("--add", "--key", "from", "--ask", "degrees", "--top", "1", "--levels", "c")
-        status, out, err = self.run_it("fleet", path, *OF_PAIRS, *asked)
-        self.assertEqual((status, err, out.splitlines()), (0, "", [
-            f"{path}: 5 rows in 3 parts",
-            "a: 3 rows", "  degrees: 3 names, greatest by out", "    a out 2 in 0 weight 7",
-            "  levels from c: 1 reached, the farthest at 0", "    0: 1",
-            "c: 1 row", "  degrees: 2 names, greatest by out", "    c out 1 in 0 weight 3",
-            "  levels from c: 2 reached, the farthest at 1", "    0: 1",
-            "x: 1 row", "  degrees: 2 names, greatest by out", "    x out 1 in 0 weight 5",
-            "  levels from c: no such name or kind"]))
-        bad = self.file("bad.csv", PAIRS + "x,y,five,15\n,y,5,16\n")
-        status, out, err = self.run_it("fleet", bad, *OF_PAIRS, "--add", "--key", "from")
-        self.assertEqual((status, out), (1, ""))
-        self.assertIn("bad.csv:8: BadName: key ''", err)
-        status, out, err = self.run_it("fleet", bad, *OF_PAIRS, "--add", "--key", "from", "--skip-bad")
-        self.assertEqual((status, err, out.splitlines()[1:]), (0, "", [
-            "a: 3 rows", "c: 1 row", "x: 2 rows", "1 bad rows passed over that have no key", "1 bad rows passed over of x"]))
-        status, out, err = self.run_it("fleet", self.file("q.csv", PAIRS + "x,y,five,15\n"), *OF_PAIRS, "--add", "--key", "from")
-        self.assertEqual((status, out.splitlines()[1:]), (1, ["a: 3 rows", "c: 1 row"]))
-        self.assertIn("1 of 3 parts gave no answer\n  part 'x': BadRows: ", err)
-        self.assertIn("q.csv:7: BadWeight: amount 'five'", err)
-        status, out, err = self.run_it("fleet", self.file("one.csv", "from,to\na,b\n"), *OF_PAIRS[:4], "--add", "--key", "from")
-        self.assertEqual((status, err, out), (0, "", f"{self.room / 'one.csv'}: 1 row in 1 part\na: 1 row\n"))
-
-    def test_a_fleet_takes_no_edge_lists(self):
-        """So it has no word for their third field, which `load` has."""
+    def test_the_third_field_of_an_edge_list(self):
         path = self.file("e.txt", "1 2 3\n")
         out = self.run_it("load", path, "--set", "--format", "snap", "--third", "weight", "--ask", "edge link 1 2")[1]
         self.assertEqual(out.splitlines()[2:], ["edge link 1 2: weight 3 first 0 recent 0"])
-        err = io.StringIO()
-        with self.assertRaises(SystemExit), redirect_stderr(err):
-            main(["fleet", path, "--set", "--key", "1", "--third", "weight"])
-        self.assertIn("unrecognized arguments: --third weight", err.getvalue())
 
     def test_an_output_whose_reader_has_gone(self):
         """It ends quietly, with the status that a shell tells of such an end."""
@@ -243,7 +213,7 @@ class Commands(CommandCase):
         self.run_it("load", path, *OF_PAIRS, "--add", "--save", saved)
         much = ["--ask", "degrees"] * 100  # (more than the pipe has room for, so that the reader goes before all is written)
         for words in (("load", path, *OF_PAIRS, "--add", *much), ("restore", saved, "--ask", "cores"),
-                      ("fleet", path, *OF_PAIRS, "--add", "--key", "from"), ("lint", saved)):
+                      ("lint", saved)):
             reader, writer = os.pipe()
             fcntl.fcntl(writer, F_SETPIPE_SZ, 4_096)
             process = subprocess.Popen([sys.executable, "-m", "misteluk", *words], stdout=writer, stderr=subprocess.PIPE,

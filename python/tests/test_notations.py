@@ -181,10 +181,6 @@ class Advice(Case):
         with self.assertRaises(misteluk.BadRows) as fault:
             list(self.store().follow(path, by="add", columns=ONE_TO_FOUR, dates="dd.mm.yyyy", until_end=True))
         self.assertIn(told, str(fault.exception))
-        with misteluk.Fleet(path, key=1, by="add", columns=ONE_TO_FOUR, dates="dd.mm.yyyy") as fleet:
-            with self.assertRaises(misteluk.PartsFailed) as failed:
-                list(fleet.ask("degrees"))
-        self.assertIn(told, str(failed.exception.faults["a"]))
 
     def test_none_for_a_call_that_it_can_not_help(self):
         store = self.store(seats=16)

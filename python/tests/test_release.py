@@ -78,7 +78,7 @@ class Pages(Case):
         told = run("man", "--warnings", "-E", "ascii", "-l", TOP / "share/man/man1/misteluk.1", env=env).stdout
         plain = re.sub(r"\s+", " ", re.sub(".\b", "", told))
         seen = 0
-        for command in ("load", "fleet", "lint", "picture"):
+        for command in ("load", "lint", "picture"):
             said = run(sys.executable, "-B", "-m", "misteluk", command, "--help", env=env).stdout
             for names, text in re.findall(r"(?m)^  (-.*?)(?:(?:  +|\n {20,})(\S.*))?$", said):
                 first = re.split(r"[ ,]", names)[0]
@@ -104,7 +104,7 @@ class Pages(Case):
 
     def test_completion_of_the_client_for_bash(self):
         """Files are offered by bash itself, where there is no word."""
-        self.complete("load fleet restore follow serve lint doctor picture -h --help -V --version", "", name="misteluk")
+        self.complete("load restore follow serve lint doctor picture -h --help -V --version", "", name="misteluk")
         self.complete("--dry-run", "load", "file.csv", "--dr", name="misteluk")
         self.complete("degrees weights_in components cores edges levels into out_of neighbors within path edge", "load",
                       "file.csv", "--ask", "", name="misteluk")

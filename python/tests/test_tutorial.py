@@ -1,6 +1,5 @@
-"""Runs each command of docs/TUTORIAL.md, docs/PYTHON.md, docs/FLEET.md and docs/USING.md, README's parts for Python and for one's
-own data, and compares what they print; and works out the stories' figures once more, by plain loops over their files. (What FLEET
-has as Python test_fleet.py runs.)"""
+"""Runs each command of docs/TUTORIAL.md, docs/PYTHON.md and docs/USING.md, README's parts for Python and for one's own data, and
+compares what they print; and works out the stories' figures once more, by plain loops over their files."""
 import ast
 import contextlib
 import csv
@@ -95,7 +94,6 @@ class Documents(Case):
 
     def test_the_commands_of_other_pages(self):
         self.assertGreater(self.run_commands(TOP / "docs/PYTHON.md"), 0)
-        self.assertGreater(self.run_commands(TOP / "docs/FLEET.md"), 0)
         self.assertEqual(self.run_commands(TOP / "docs/USING.md"), 1)
 
     @unittest.skipUnless((TOP / ".git").exists(), "this is no clone")
@@ -108,7 +106,7 @@ class Documents(Case):
         part = (TOP / "README.md").read_text().split("## Your own data\n")[1].split("\n## ")[0]
         subprocess.run("\n".join(re.findall(r"(?m)^    (.*)$", part)), shell=True, executable="/bin/bash", cwd=self.room,
                        stdout=subprocess.DEVNULL, stderr=subprocess.DEVNULL, timeout=60, check=True)
-        for it in ("TUTORIAL", "PYTHON", "FLEET", "USING"):
+        for it in ("TUTORIAL", "PYTHON", "USING"):
             self.run_commands(TOP / f"docs/{it}.md")
         for it in ("docs/TUTORIAL.md", "docs/PYTHON.md", "README.md"):
             self.conversations(TOP / it)

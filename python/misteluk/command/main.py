@@ -1,4 +1,4 @@
-"""What `misteluk` does: load, fleet, restore, follow, serve, lint, picture, doctor."""
+"""What `misteluk` does: load, restore, follow, serve, lint, picture, doctor."""
 from __future__ import annotations
 
 import argparse
@@ -16,10 +16,9 @@ from .. import files, pictures
 
 from ..values import records
 from ..values.limits import OF_PROGRAM
-from ..errors import NoKind, NoVertex, StoreError
-from ..feeds.feed import STANDARD_INPUT, feed_name
+from ..errors import StoreError
+from ..feeds.feed import STANDARD_INPUT
 from ..engine.making import LIBRARY, PROGRAM, choose
-from ..fleet.fleet import Fleet
 from ..lint import lint
 from ..feeds.limits import check
 from ..feeds.loading import load, load_in_steps
@@ -44,7 +43,7 @@ def form_of_feed(words: argparse.Namespace) -> Dict[str, Any]:
     return {"by": words.by, "weight_scale": words.weight_scale, "times": words.times, "names": words.names,
             "format": words.format, "columns": columns_of(words), "delimiter": words.delimiter, "header": words.header,
             "encoding": words.encoding, "decimal": words.decimal, "dates": words.dates,
-            **({"third": words.third} if "third" in words else {})}
+            "third": words.third}
 
 
 def read(words: argparse.Namespace) -> Survey:
@@ -135,34 +134,12 @@ def tell(words: argparse.Namespace, found: Survey) -> None:
             print(f"  {len(found.terms.names)} names and kinds stand in it as ids, ~~ and 20 signs")
 
 
-def answer(words: argparse.Namespace, session: Session[Any, Any], is_part: bool = False) -> Iterator[str]:
-    """The lines of what is asked for. A part of a fleet needn't have the names."""
+def answer(words: argparse.Namespace, session: Session[Any, Any]) -> Iterator[str]:
+    """The lines of what is asked for."""
     questions: List[Question] = [*words.ask]
     questions += [Question(f"levels from {shown(it)}", "levels", (it,)) for it in words.levels]
     for it in questions:
-        try:
-            yield from all_lines(it, session, words.top, words.column, window(words))
-        except (NoVertex, NoKind):
-            if not is_part or not it.names:
-                raise
-            yield f"{it.text}: no such name or kind"
-
-
-def rows_told(count: int) -> str:
-    return f"{count} row{'s' * (count != 1)}"
-
-
-def run_fleet(words: argparse.Namespace) -> int:
-    """Parts a file's rows, and tells each part's answers below its key."""
-    with Fleet(words.file, key=words.key, workers=words.workers, alive=0, skip_bad=words.skip_bad, batch=words.batch,
-               **engine_of(words), **form_of_feed(words)) as fleet:
-        print(f"{feed_name(words.file)}: {rows_told(sum(fleet.parts.values()))} in {len(fleet)} part{'s' * (len(fleet) != 1)}",
-              flush=True)
-        for key, lines in fleet.ask(lambda session: list(answer(words, session, is_part=True))):
-            print(f"{shown(key)}: {rows_told(fleet.parts[key])}", *(f"  {it}" for it in lines), sep="\n", flush=True)
-        for key, count in fleet.bad.items():
-            print(f"{count} bad rows passed over {f'of {shown(key)}' if key else 'that have no key'}")
-    return 0
+        yield from all_lines(it, session, words.top, words.column, window(words))
 
 
 def run_follow(words: argparse.Namespace) -> int:
@@ -297,7 +274,7 @@ def main(words: Optional[List[str]] = None) -> int:
         if isinstance(it, io.TextIOWrapper):  # (a name that the terminal has no signs for)
             it.reconfigure(errors="backslashreplace")
     try:
-        run = {"load": run_load, "fleet": run_fleet, "restore": run_restore, "follow": run_follow, "serve": run_serve,
+        run = {"load": run_load, "restore": run_restore, "follow": run_follow, "serve": run_serve,
                "lint": run_lint, "picture": run_picture, "doctor": run_doctor}
         status = run[parsed.command](parsed)
         if sys.stdout:

@@ -42,8 +42,8 @@ QUESTIONS = ("degrees, weights_in, components, cores or edges, with a kind behin
              "'out_of NAME', 'neighbors NAME', 'within NAME HOPS', 'path SOURCE TARGET' or 'edge KIND SOURCE TARGET'")
 
 
-def add_feed_options(parser: argparse.ArgumentParser, blocks: Optional[str] = BLOCKS, edge_lists: bool = True,
-                     saved: str = "", is_needed: bool = True, batch: Optional[int] = records.MOST_OPERATIONS) -> None:
+def add_feed_options(parser: argparse.ArgumentParser, blocks: str = BLOCKS, saved: str = "", is_needed: bool = True,
+                     batch: Optional[int] = records.MOST_OPERATIONS) -> None:
     """Options of a feed; `saved` says what a saved file, or none, in its place is for, where there may be one."""
     count: Any = None if is_needed else "?"
     parser.add_argument("file", nargs=count, help=f"a delimited file, an edge list (SNAP), or a Matrix Market file; .gz is "
@@ -66,19 +66,16 @@ def add_feed_options(parser: argparse.ArgumentParser, blocks: Optional[str] = BL
                       "1,234.50; , takes 12,50 and 1.234,50 (.)")
     feed.add_argument("--dates", choices=TIMES, help="times are dates of this form, which a time of day may follow, or numbers "
                       "since 1970; else --times iso takes 2024-03-05")
-    if edge_lists:
-        feed.add_argument("--third", choices=("weight", "time"), help="what the third field of an edge list is")
+    feed.add_argument("--third", choices=("weight", "time"), help="what the third field of an edge list is")
     feed.add_argument("--weight-scale", type=int, metavar="N", help="weights are decimals of so many parts: 100 takes 12.50")
-    if edge_lists:
-        feed.add_argument("--rounding", choices=("half-even",), help="round weights that have more decimals than --weight-scale "
-                          "takes; else such a row is bad")
+    feed.add_argument("--rounding", choices=("half-even",), help="round weights that have more decimals than --weight-scale "
+                      "takes; else such a row is bad")
     feed.add_argument("--times", choices=("number", "iso"), help="iso: times are dates, here and in what is asked and told")
     feed.add_argument("--names", choices=("plain", "escape"), default="plain", help="any text is a name; escape: with %%20 for a "
                       "space and so on, which a script has else as an id")
     feed.add_argument("--skip-bad", action="store_true", help="pass over rows that can't be taken, and count them")
     store = parser.add_argument_group("the store")
-    if blocks is not None:
-        store.add_argument("--blocks", type=int, help=f"else {blocks}")
+    store.add_argument("--blocks", type=int, help=f"else {blocks}")
     store.add_argument("--batch", type=int, default=batch, metavar="N", help="rows a batch (4,096 at most)")
     add_program(store)
 
@@ -150,16 +147,6 @@ def add_restore(restore: argparse.ArgumentParser) -> None:
     add_program(store)
 
 
-def add_fleet(fleet: argparse.ArgumentParser) -> None:
-    add_feed_options(fleet, blocks=None, edge_lists=False)  # (an edge list has no column to part its rows by)
-    parts = fleet.add_argument_group("parts, and what then")
-    parts.add_argument("--key", type=column, required=True, metavar="COLUMN", help="the column that parts the rows: a name, or a "
-                       "number from 1")
-    parts.add_argument("--workers", type=int, metavar="N", help="how many parts are asked at once; else one a processor, up to 8")
-    add_questions(parts)
-    add_window(fleet)
-
-
 def add_pace(live: Any) -> None:
     live.add_argument("--every", default="1s", metavar="TIME", help="commit when a row has waited so long, as 500ms, 1s or 5m, "
                       "and when a batch is full (1s)")
@@ -226,7 +213,6 @@ def make_parser() -> argparse.ArgumentParser:
     ask.add_argument("--dry-run", action="store_true", help="count and check the file, and send nothing")
     ask.add_argument("--script", metavar="OUT", help="write the records as a script for `stinger run`, and send nothing")
     add_what_then(load, ask)
-    add_fleet(commands.add_parser("fleet", help="part a file's rows by a column, load each part into its own store, and ask all"))
     add_restore(commands.add_parser("restore", help="make a store of a saved file, and ask"))
     add_follow(commands.add_parser("follow", help="load a file that grows, or standard input, as it comes; Ctrl-C ends it"))
     add_serve(commands.add_parser("serve", help="serve a live graph over HTTP: one feed, and many who ask; Ctrl-C ends it"))

@@ -15,5 +15,4 @@ Choices:
   store opens small, and a larger desk takes its place.
 - A store renews itself only where the refused batch fits then, by count; else another desk gets the batch, and takes the place
   of the one in use once it has it. So a refused batch changes nothing.
-- A fleet uses programs, because its parts are many and its questions are other people's code.
 """

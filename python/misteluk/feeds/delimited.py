@@ -132,11 +132,11 @@ class Picked:
     """The columns of a table that are wanted."""
 
     def __init__(self, feed: str, columns: Columns, names: Sequence[str], sign: str = "") -> None:
-        source, target, kind, weight, time, key = (_place(feed, it, names) for it in columns.wanted)
+        source, target, kind, weight, time = (_place(feed, it, names) for it in columns.wanted)
         warn_of_unread(feed, columns, names)
         self.feed = feed
-        self.places = (kind, source, target, weight, time, *([] if key is None else [key]))
-        self.usual = (columns.usual_kind, "", "", "1", columns.usual_time, "")
+        self.places = (kind, source, target, weight, time)
+        self.usual = (columns.usual_kind, "", "", "1", columns.usual_time)
         self.least = max(it for it in self.places if it is not None) + 1
         self.form = TableForm(names, sign, max(len(names), self.least))
         self.is_first = True

@@ -69,8 +69,6 @@ class Block(NamedTuple):
     targets: Sequence[str]
     weights: Sequence[Any]
     times: Sequence[Any]
-    # By what each row is parted; none where nothing is.
-    keys: Sequence[str] = ()
     # The rows as they came; none where they came as they are here.
     came: Sequence[Sequence[str]] = ()
 
@@ -118,7 +116,7 @@ class Feed(NamedTuple):
 
 class Columns(NamedTuple):
     """Which columns a table's edges are in: a name, or a number from 1. Where a column is `None`, `usual_kind`, a weight of 1
-    and a time of `usual_time` stand for it. `key` is the column that a `Fleet` parts rows by, which says it itself."""
+    and a time of `usual_time` stand for it."""
 
     source: Column = "source"
     target: Column = "target"
@@ -127,16 +125,15 @@ class Columns(NamedTuple):
     time: Optional[Column] = None
     usual_kind: str = USUAL_KIND
     usual_time: str = "0"
-    key: Optional[Column] = None
 
     @property
     def wanted(self) -> Tuple[Optional[Column], ...]:
-        """The columns themselves: of the source, the target, the kind, the weight, the time and the key."""
-        return (*self[:5], self.key)
+        """The columns themselves: of the source, the target, the kind, the weight and the time."""
+        return self[:5]
 
     @property
     def are_unsaid(self) -> bool:
-        """Whether no column but the key was said."""
+        """Whether no column was said."""
         return self[:5] == Columns()[:5]
 
 

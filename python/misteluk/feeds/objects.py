@@ -179,8 +179,6 @@ def _form_of_rows(first: Any, columns: Columns) -> Tuple[List[str], Picked]:
         warn_of_unread("rows", columns, list(first))
         return wanted, Picked("rows", columns, [it for it in wanted if it in first])
     if columns.are_unsaid:
-        if columns.key is not None:
-            raise FeedFault("rows:1: a tuple's columns are told by number where a key parts them, as Columns(1, 2, weight=3)")
         if len(first) > 5:
             raise FeedFault(f"rows:1: {len(first)} fields, where an edge has source, target, weight, time and kind: say which to "
                             "take by numbers from 1, Columns(1, 2, ..)")

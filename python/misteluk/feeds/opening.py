@@ -19,7 +19,7 @@ FORMATS = ("delimited", "snap", "matrix")
 
 
 class ReadAs(NamedTuple):
-    """How a feed is read: the options of `load`, `follow`, `survey`, `open_feed` and `Fleet`, as far as each has a use for them.
+    """How a feed is read: the options of `load`, `follow`, `survey` and `open_feed`, as far as each has a use for them.
 
     `format` is "delimited", "snap" or "matrix"; without it a file's name says: .mtx a matrix, .csv and .tsv and others delimited,
     and .txt an edge list where it begins with #. `columns`, `delimiter`, `header` are of delimited files (see `delimited`),
