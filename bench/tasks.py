@@ -36,12 +36,12 @@ def sums(frame: Any) -> Edges:
     return {ends: (int(row.weight), int(row.first), int(row.recent)) for ends, row in rows}
 
 
-def transfers(count: int, engine: str, folder: pathlib.Path) -> None:
+def transfers(count: int, folder: pathlib.Path) -> None:
     made = random.Random(1)
     rows = [(f"a{made.randrange(count // 10)}", f"a{made.randrange(count // 10)}", made.randrange(1, 1000), at * DAY // 100)
             for at in range(count)]
     frame = pandas.DataFrame(rows, columns=["source", "target", "amount", "time"])
-    with Store(engine=engine) as store:
+    with Store() as store:
         step("load", lambda: store.load(frame, by="add", columns=Columns("source", "target", weight="amount", time="time")))
         session, wanted = store.open(), sums(frame)
         for _ in range(3):
@@ -57,16 +57,16 @@ def transfers(count: int, engine: str, folder: pathlib.Path) -> None:
         degrees = step("degrees", session.degrees)
         must_be("the sums", all(it.weight_out == out.get(name, 0) for name, it in degrees.items()))
         saved = step("save", lambda: session.save(folder / "transfers.csv.gz"))
-        with step("restore", lambda: Store.restore(saved.path, engine=engine)) as copy, copy.open() as there:
+        with step("restore", lambda: Store.restore(saved.path)) as copy, copy.open() as there:
             must_be("the restored edges", not session.diff(there))
 
 
-def logistics(engine: str) -> None:
+def logistics() -> None:
     made = random.Random(2)
     names = [f"p{it}" for it in range(400)]
     graph = networkx.MultiDiGraph()
     graph.add_nodes_from(names)
-    with Store(engine=engine, seats=4) as store:
+    with Store(seats=4) as store:
         for at in range(3_000):
             source, target, kind = made.choice(names), made.choice(names), made.choice(("road", "rail"))
             store.insert(kind, source, target, at, at)
@@ -93,12 +93,12 @@ def logistics(engine: str) -> None:
         step("10 pages", lambda: [view(before, name, 1, beside=after) for name in names[:10]])
 
 
-def dependencies(count: int, engine: str, folder: pathlib.Path) -> None:
+def dependencies(count: int, folder: pathlib.Path) -> None:
     made = random.Random(3)
     names = max(2, min(50_000, count // 10))
     rows = [(f"n{made.randrange(names)}", f"n{made.randrange(names)}", 1, at) for at in range(count)]
     frame = pandas.DataFrame(rows, columns=["source", "target", "amount", "time"])
-    with Store(engine=engine, blocks=65_536) as store:
+    with Store(blocks=65_536) as store:
         step("load", lambda: store.load(frame, by="add", columns=Columns("source", "target", weight="amount", time="time")))
         session, wanted = store.open(), sums(frame)
         found = step("edges_frame", session.edges_frame)

@@ -1,8 +1,6 @@
 """Three tasks of an analyst, next to pandas and networkx: what the client says has to equal what they say. A line for each step
 has its processor time.
 
-    python3 -m bench run analyst                    over the library in this process
-    python3 -m bench run analyst --engine program   over stinger run (its records end the third task)
     python3 -m bench run analyst --rows 50000       smaller ones
 
 1. transfers: 200,000 rows of 20,000 accounts, summed; exports, windows of days, a save and a restore.
@@ -18,15 +16,14 @@ from bench import tasks
 
 
 def options(parser: argparse.ArgumentParser) -> None:
-    parser.add_argument("--engine", choices=("library", "program"), default="library")
     parser.add_argument("--rows", type=int, default=500_000, help="of the third task; the first has two fifths of them (500,000)")
 
 
 def measure(words: argparse.Namespace, room: pathlib.Path) -> None:
     print("transfers")
-    tasks.transfers(words.rows * 2 // 5, words.engine, room)
+    tasks.transfers(words.rows * 2 // 5, room)
     print("logistics")
-    tasks.logistics(words.engine)
+    tasks.logistics()
     print("dependencies")
-    tasks.dependencies(words.rows, words.engine, room)
+    tasks.dependencies(words.rows, room)
     print("all equal")

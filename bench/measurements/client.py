@@ -4,10 +4,9 @@ is aimed at, next to igraph where it is there, and what was found, of processor 
 
     python3 -m bench run client              500,000 edges between 60,000 vertices, five turns
     python3 -m bench run client 50000 3      so many edges, and so many turns
-    python3 -m bench run client --program    also over `stinger run`, through pipes
 
 Tables and exports are asked of sessions that were asked nothing before, edges at vertices of one that has read all edges. "Once
-more" is without what the first such question puts in order. With 500,000 edges `stinger run` has no record left for an export.
+more" is without what the first such question puts in order.
 
 All take turns, and medians are printed. Each answer is compared with the client's in the first turn, and the measurement stops
 where one differs. The library is the proved one, or the one that MISTELUK_LIBRARY names.
@@ -22,7 +21,7 @@ from typing import Any, Dict, Iterator, List, Optional
 
 from bench import tables
 from bench.measuring import Spent, in_turns, medians, stop, timed
-from bench.stores.edge_file import ASKED, Client, Input, Program
+from bench.stores.edge_file import ASKED, Client, Input
 from bench.stores.packages import OTHERS
 
 # What is measured: the name of a call, what it does, and whether its answer is compared.
@@ -45,7 +44,6 @@ Times = Dict[str, Spent]
 def options(parser: argparse.ArgumentParser) -> None:
     parser.add_argument("edges", type=int, nargs="?", default=500_000)
     parser.add_argument("turns", type=int, nargs="?", default=5)
-    parser.add_argument("--program", action="store_true", help="also over `stinger run`")
 
 
 class Turns:
@@ -97,8 +95,7 @@ def aims(times: Dict[str, Times], edges: int) -> Iterator[List[str]]:
 
 
 def measure(words: argparse.Namespace, room: pathlib.Path) -> None:
-    makes: List[Any] = [Client, *([Program] if words.program else [])]
-    makes += [make for module, make in OTHERS.items() if importlib.util.find_spec(module)]
+    makes: List[Any] = [Client, *(make for module, make in OTHERS.items() if importlib.util.find_spec(module))]
     for module in filter(importlib.util.find_spec, ("pandas", *OTHERS)):
         importlib.import_module(module)  # (which is none of what is measured)
     given = Input(str(room / "edges.csv"), words.edges)

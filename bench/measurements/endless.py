@@ -84,7 +84,7 @@ def measure(words: argparse.Namespace, _: pathlib.Path) -> None:
     operations = words.operations
     if operations < 1 or operations % (BATCH * POINTS):
         stop(f"the operations are a multiple of {BATCH * POINTS}, so that each point comes after a batch")
-    with Store(blocks=BLOCKS, engine="library", endless=True) as store:
+    with Store(blocks=BLOCKS, endless=True) as store:
         feed = Feed(store)
         for at, row in enumerate(rows(operations, random.Random(5)), 1):
             feed.add(*row)

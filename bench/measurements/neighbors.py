@@ -1,8 +1,7 @@
-"""What a session's walks take, over the library in this process and over a program by pipes, next to networkx and SQLite, for one
-file of a bank's transfers; what the memory of edges takes of a load by pipes; and what a version saved by pipes takes.
+"""What a session's walks take, next to networkx and SQLite, for one file of a bank's transfers.
 
     python3 -m bench run neighbors          200,000 transfers between 20,000 accounts, one of which some 2,000 send to
-    python3 -m bench run neighbors 20000    so many transfers, 2,000 to 300,000, between a tenth as many accounts
+    python3 -m bench run neighbors 20000    so many transfers, between a tenth as many accounts
 
 Elapsed seconds, medians of five runs in turns. Each answer is compared with those of the others, and the measurement stops where
 they differ. SQLite is that of Python, in memory.
@@ -11,24 +10,20 @@ from __future__ import annotations
 
 import argparse
 import functools
-import os
 import pathlib
 from typing import Any, Callable, Dict, List, Tuple
 
 from bench import tables
 from bench.measuring import in_turns, spread, stop, timed
-from bench.places import program, takes_program
-from bench.stores import remembered
 from bench.stores.transfers import HOPS, SIDES, chosen, plain, questions, write_transfers
 
 ALL, PATH, NEAR = "all edges, out", "a shortest path", f"what is within {HOPS} hops of a name"
-LOAD = ("the load, elapsed", "the load, processor time of Python's process", "the load, processor time of both processes")
+LOAD = ("the load, elapsed", "the load, processor time")
 Asked = Dict[str, Callable[[Any], Any]]
 
 
 def options(parser: argparse.ArgumentParser) -> None:
-    takes_program(parser)
-    parser.add_argument("transfers", type=int, nargs="?", default=200_000, help="2,000 to 300,000 (200,000)")
+    parser.add_argument("transfers", type=int, nargs="?", default=200_000, help="2,000 or more (200,000)")
     parser.add_argument("--runs", type=int, default=5, help="turns (5)")
 
 
@@ -36,7 +31,7 @@ def turn_of(make: Any, path: str, asked: Asked, answers: Dict[str, Any]) -> Dict
     """One side's turn: the seconds of the load and of each question; its answers are kept."""
     begin: Callable[[], Any] = functools.partial(make, path)
     side, spent = timed(begin)
-    seconds = dict(zip(LOAD, (spent.elapsed, spent.processor, spent.processor + side.program_seconds())))
+    seconds = dict(zip(LOAD, (spent.elapsed, spent.processor)))
     for what, ask in asked.items():
         question: Callable[[], Any] = functools.partial(ask, side)
         answers[what], spent = timed(question)
@@ -75,11 +70,8 @@ def walks(path: str, transfers: int, turns: int) -> None:
 
 
 def measure(words: argparse.Namespace, room: pathlib.Path) -> None:
-    if not 2_000 <= words.transfers <= 300_000:
-        stop("from 2,000 to 300,000 transfers: a run of the program takes no more with the questions")
-    os.environ["MISTELUK_PROGRAM"] = program(words.program)
+    if words.transfers < 2_000:
+        stop("2,000 transfers or more")
     path = str(room / "transfers.csv")
     write_transfers(path, words.transfers)
     walks(path, words.transfers, words.runs)
-    remembered.memory_of_edges(path, words.transfers, words.runs)
-    remembered.saved(path, room, words.runs)

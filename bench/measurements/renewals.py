@@ -38,7 +38,7 @@ def renewed(store: Any) -> float:
 def rows(sizes: List[int]) -> Iterator[List[str]]:
     import misteluk
     for edges in sizes:
-        with misteluk.Store(engine="library") as store:
+        with misteluk.Store() as store:
             feed(store, edges)
             renewal = spread([renewed(store) for _ in range(RENEWALS)]).median
             there = store.stat().edges

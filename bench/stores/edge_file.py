@@ -5,7 +5,6 @@ import csv
 import random
 from typing import Any, Dict, List, Set, Tuple
 
-from bench.places import BLOCKS
 from misteluk import Columns, Store
 
 # Of how many vertices the edges are asked, and how many single edges are added.
@@ -43,19 +42,19 @@ class Input:
 class Client:
     """The store in this process, by sessions."""
 
-    engine, name = "library", "misteluk"
+    name = "misteluk"
 
     def __init__(self, given: Input) -> None:
         self.given = given
         self.columns = Columns("source", "target", weight="weight", time="time")
 
     def load(self) -> None:
-        self.store: Any = Store(engine=self.engine, blocks=BLOCKS if self.engine == "program" else None)
+        self.store: Any = Store()
         self.store.load(self.given.path, by="set", columns=self.columns, progress=False)
         self.session = self.store.open()
 
     def rows(self) -> None:
-        with Store(engine=self.engine, blocks=BLOCKS if self.engine == "program" else None) as store:
+        with Store() as store:
             store.load(self.given.rows, by="set", progress=False)
 
     def degrees(self) -> Any:
@@ -124,10 +123,6 @@ class Client:
     def close(self) -> None:
         self.session.close()
         self.store.close()
-
-
-class Program(Client):
-    engine, name = "program", "by pipes"
 
 
 def parts(labels: Dict[str, Any]) -> Any:

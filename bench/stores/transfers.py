@@ -2,15 +2,13 @@
 from __future__ import annotations
 
 import csv
-import os
 import sqlite3
-from typing import Any, Callable, Dict, Iterator, List, Set, Tuple, cast
+from typing import Any, Callable, Dict, Iterator, List, Set, Tuple
 
 import networkx
 
 from bench import scripts
 from bench.measuring import stop
-from bench.places import BLOCKS, program
 from misteluk import Columns, Store
 
 # Of how many accounts with few senders it is asked who sends to them; how far `within` goes; how many steps the path has; and how
@@ -42,12 +40,9 @@ class Client:
     """The client over the library in this process."""
 
     def __init__(self, path: str) -> None:
-        self.store = self.made()
+        self.store: "Store[Any, Any]" = Store()
         self.store.load(path, by="add", columns=COLUMNS, progress=False)
         self.session = self.store.open()
-
-    def made(self) -> "Store[Any, Any]":
-        return Store(engine="library")
 
     def into(self, name: str) -> Any:
         return self.session.into(name)
@@ -64,24 +59,8 @@ class Client:
     def weights_in(self) -> Any:
         return self.session.weights_in()
 
-    def program_seconds(self) -> float:
-        """The processor time of another process."""
-        return 0.0
-
     def close(self) -> None:
         self.store.close()
-
-
-class ByPipes(Client):
-    """The client, and the program that it talks to."""
-
-    def made(self) -> "Store[Any, Any]":
-        return Store(blocks=BLOCKS, engine="program", program=program())
-
-    def program_seconds(self) -> float:
-        with open(f"/proc/{cast(Any, self.store).engine.talk.process.pid}/stat") as file:
-            user, system = file.read().rpartition(")")[2].split()[11:13]
-        return (int(user) + int(system)) / os.sysconf("SC_CLK_TCK")
 
 
 class Networkx:
@@ -112,9 +91,6 @@ class Networkx:
 
     def weights_in(self) -> Any:
         return dict(self.graph.in_degree(weight="weight"))
-
-    def program_seconds(self) -> float:
-        return 0.0
 
     def close(self) -> None:
         del self.graph
@@ -161,14 +137,11 @@ class Sqlite:
     def weights_in(self) -> Any:
         return dict(self.ask("SELECT target, sum(weight) FROM edge GROUP BY target"))
 
-    def program_seconds(self) -> float:
-        return 0.0
-
     def close(self) -> None:
         self.base.close()
 
 
-SIDES = {"the client": Client, "by pipes": ByPipes, "networkx": Networkx, "SQLite": Sqlite}
+SIDES = {"the client": Client, "networkx": Networkx, "SQLite": Sqlite}
 
 
 def chosen(path: str) -> Tuple[int, List[str], str, str]:

@@ -12,10 +12,10 @@ Python's standard library is enough; numpy, pandas, networkx, matplotlib and tqd
 """
 from .engine.finding import find_library, find_program
 from .errors import (AlreadyOpen, BadCommand, BadFields, BadName, BadRows, BadSlot, BadTime, BadWeight, BadWindow, BatchFull,
-                     BatchLimit, Busy, FeedFault, Incomplete, KindsFull, LeftOut, LibraryNotFound, Misread, Missing, NamesFull,
-                     NearLimit, NoAnswer, NoKind, NoMemory, NoSeat, NoServer, NotAllowed, NotOpen, NotRenewed, NoVertex,
-                     OperationsRefused, OutOfMemory, OverLimit, Place, PoolEmpty, ProgramEnded, ProgramNotFound,
-                     RecordLimit, Refused, SaveFault, SessionClosed, StoreError, TooLarge, Uncommitted)
+                     BatchLimit, Busy, FeedFault, KindsFull, LeftOut, LibraryNotFound, Misread, Missing, NamesFull,
+                     NoAnswer, NoKind, NoMemory, NoSeat, NoServer, NotAllowed, NotOpen, NoVertex,
+                     OverLimit, Place, PoolEmpty, ProgramNotFound,
+                     Refused, SaveFault, SessionClosed, StoreError, TooLarge, Uncommitted)
 from .feeds.delimited import delimited
 from .feeds.feed import Columns, Feed, matrix_market, snap
 from .feeds.following import Following, follow
@@ -48,8 +48,8 @@ __all__ = [
     "Saved", "Stat", "view", "View", "lint",
     "find_library", "find_program",
     "StoreError", "Refused", "Place", "AlreadyOpen", "BadCommand", "BadFields", "BadName", "BadRows", "BadSlot", "BadTime",
-    "BadWeight", "BadWindow", "BatchFull", "BatchLimit", "Busy", "FeedFault", "Incomplete", "KindsFull", "LeftOut",
-    "LibraryNotFound", "Misread", "Missing", "NamesFull", "NearLimit", "NoAnswer", "NoKind", "NoMemory", "NoSeat", "NoServer",
-    "NotAllowed", "NoVertex", "NotOpen", "NotRenewed", "OperationsRefused", "OutOfMemory", "OverLimit",
-    "PoolEmpty", "ProgramEnded", "ProgramNotFound", "RecordLimit", "SaveFault", "SessionClosed", "TooLarge", "Uncommitted",
+    "BadWeight", "BadWindow", "BatchFull", "BatchLimit", "Busy", "FeedFault", "KindsFull", "LeftOut",
+    "LibraryNotFound", "Misread", "Missing", "NamesFull", "NoAnswer", "NoKind", "NoMemory", "NoSeat", "NoServer",
+    "NotAllowed", "NoVertex", "NotOpen", "OverLimit",
+    "PoolEmpty", "ProgramNotFound", "SaveFault", "SessionClosed", "TooLarge", "Uncommitted",
 ]

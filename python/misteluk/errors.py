@@ -36,11 +36,10 @@ class Place(NamedTuple):
 
 
 class Refused(StoreError):
-    """The program refused a record. It changed nothing by it, and goes on.
+    """An operation or a question was refused. It changed nothing.
 
-    `word` is the program's word, `record` the record's number in this run, `place` where the operation came from, `fault` the
-    field and the reason, `advice` what to do, and `told` all of it without the advice. Of a refused commit `applied` has what
-    the batches before the refused one did, or `None`.
+    `word` is the word for that, `place` where the operation came from, `fault` the field and the reason, `advice` what to do, and
+    `told` all of it without the advice. Of a refused commit `applied` has what the batches before the refused one did, or `None`.
     """
 
     word = ""
@@ -50,25 +49,24 @@ class Refused(StoreError):
     def __init_subclass__(cls) -> None:
         cls.word = cls.__name__
 
-    def __init__(self, text: str = "", *, record: Optional[int] = None, place: Optional[Place] = None,
-                 fault: Optional[Fault] = None, word: Optional[str] = None, advice: Optional[str] = None) -> None:
-        self.record, self.place, self.fault = record, place, fault
+    def __init__(self, text: str = "", *, place: Optional[Place] = None, fault: Optional[Fault] = None,
+                 word: Optional[str] = None, advice: Optional[str] = None) -> None:
+        self.place, self.fault = place, fault
         self.word = word or self.word
         self.advice = self.advice if advice is None else advice
         where = f"{place}: " if place else ""
-        number = f" (record {record})" if record else ""
         reason = text or (str(fault) if fault else "")
-        self.told = f"{where}{self.word}{number}" + (f": {reason}" if reason else "")
+        self.told = f"{where}{self.word}" + (f": {reason}" if reason else "")
         super().__init__(self.told + (f". {self.advice}" if self.advice else ""))
 
     @property
     def field(self) -> Optional[str]:
-        """Which field is wrong; `None` where none was named, as where the program refused the record."""
+        """Which field is wrong; `None` where none was named."""
         return self.fault.field if self.fault else None
 
     @property
     def reason(self) -> Optional[str]:
-        """Why it is refused; `None` where only the program's word is known."""
+        """Why it is refused; `None` where only the word is known."""
         return self.fault.reason if self.fault else None
 
 
@@ -139,20 +137,19 @@ class BatchFull(Refused):
 class BatchLimit(Refused):
     """As many batches were applied as the store takes."""
 
-    advice = ("A program takes at most 65,536 batches: make them larger, or begin it anew from a session (Store.rebase), or take "
-              "a store in this process (engine='library')")
+    advice = "Make batches larger, or begin the store anew from a session (Store.rebase)"
 
 
 class NamesFull(Refused):
     """With the batch there would be more names than the store takes."""
 
-    advice = "A program's graph has at most 65,536 names, those of removed edges too: a store in this process takes more"
+    advice = "The names of removed edges count too"
 
 
 class KindsFull(Refused):
     """With the batch there would be more kinds than the store takes."""
 
-    advice = "A graph has at most 64 kinds, those of removed edges too"
+    advice = "A graph has at most 64 kinds; those of removed edges count too"
 
 
 class TooLarge(Refused):
@@ -165,37 +162,27 @@ class PoolEmpty(Refused):
     """A batch needs as many free blocks as it has operations, and with an expiry as many more as are used. `needed` and `free`
     say how many those are."""
 
-    advice = "Collect, close a session that holds an old version, make batches smaller, or give the store more blocks"
+    advice = "Make batches smaller, or give the store more blocks"
 
-    def __init__(self, *, needed: int, free: Optional[int], record: Optional[int] = None, place: Optional[Place] = None,
-                 text: str = "", advice: Optional[str] = None) -> None:
+    def __init__(self, *, needed: int, free: Optional[int], place: Optional[Place] = None, text: str = "",
+                 advice: Optional[str] = None) -> None:
         self.needed, self.free = needed, free
         self.advice = self.advice if advice is None else advice
         left = "" if free is None else f", and {free} are free"
-        super().__init__(text or f"the batch needs {needed} free blocks{left}", record=record, place=place)
+        super().__init__(text or f"the batch needs {needed} free blocks{left}", place=place)
 
 
 WORDS: Dict[str, Type[Refused]] = {it.word: it for it in Refused.__subclasses__()}
 
 
-def refusal(word: str, text: str = "", *, record: Optional[int] = None, place: Optional[Place] = None,
-            fault: Optional[Fault] = None, advice: Optional[str] = None) -> Refused:
+def refusal(word: str, text: str = "", *, place: Optional[Place] = None, fault: Optional[Fault] = None,
+            advice: Optional[str] = None) -> Refused:
     """The exception for a word, or a plain `Refused` for one that this package doesn't know. `advice` stands for that of the
     word, where it is told."""
     known = WORDS.get(word, Refused)
     if known is PoolEmpty:
-        return Refused(text, record=record, place=place, fault=fault, word=word)
-    return known(text, record=record, place=place, fault=fault, word=word, advice=advice)
-
-
-class OperationsRefused(StoreError):
-    """The program refused operations that this package took for right. The batch was applied without them: `version` is its
-    number, and `refused` has an exception for each of them."""
-
-    def __init__(self, version: int, refused: Sequence[Refused]) -> None:
-        self.version, self.refused = version, list(refused)
-        told = "; ".join(map(str, self.refused[:3]))
-        super().__init__(f"version {version} was made without {len(self.refused)} operations that were refused: {told}")
+        return Refused(text, place=place, fault=fault, word=word)
+    return known(text, place=place, fault=fault, word=word, advice=advice)
 
 
 class BadRows(StoreError):
@@ -218,8 +205,7 @@ class BadRows(StoreError):
 
 
 class OverLimit(StoreError):
-    """A feed, or a copy of a version, is more than a run of the program can take; nothing of it is loaded or written. `counts`
-    says what was counted."""
+    """A feed is more than a store takes; nothing of it is loaded. `counts` says what was counted."""
 
     def __init__(self, text: str, counts: Dict[str, int]) -> None:
         self.counts = counts
@@ -232,21 +218,6 @@ class NoSeat(StoreError):
 
 class SessionClosed(StoreError):
     """A request of a session that was closed, by itself or by a rebase; nothing was sent."""
-
-
-class RecordLimit(StoreError):
-    """A run takes 999,999 records: this one would be one more, and was not sent. A new store takes as many again, and an endless
-    one goes on."""
-
-
-class NotRenewed(StoreError):
-    """An endless store couldn't go on in a new program. The one in use stays so, and nothing that is pending was sent; the next
-    commit tries again."""
-
-
-class NearLimit(UserWarning):
-    """All edges can be asked for once more by a session, or not any more, and the run's records are then too few; or an endless
-    store has nearly as many edges as can go into a new program, or more."""
 
 
 class LeftOut(UserWarning):
@@ -267,11 +238,11 @@ class FeedFault(StoreError):
 
 
 class SaveFault(StoreError):
-    """A file is no saved version, or isn't as it was written. Nothing of it is restored, and no program was begun."""
+    """A file is no saved version, or isn't as it was written. Nothing of it is restored."""
 
 
 class ProgramNotFound(StoreError):
-    """There is no program to run."""
+    """There is no program `stinger`."""
 
 
 class LibraryNotFound(StoreError):
@@ -283,21 +254,8 @@ class NoMemory(StoreError, MemoryError):
 
 
 class NoAnswer(StoreError, TimeoutError):
-    """The program neither read nor wrote anything for as long as it may. The call may be made again: a batch or rebase that was
-    sent is waited for, and not sent twice."""
-
-
-class ProgramEnded(StoreError):
-    """The program came to its end before it had answered, and the graph is gone with it. `status` is its exit status, negative
-    for a signal's number, and `said` what it wrote on standard error."""
-
-    def __init__(self, text: str, status: Optional[int] = None, said: str = "") -> None:
-        self.status, self.said = status, said
-        super().__init__(text + (f"; it said: {said}" if said else ""))
-
-
-class OutOfMemory(ProgramEnded):
-    """The program ran out of memory for a record, and ended."""
+    """A server was silent for as long as it may be. The call may be made again: a batch that was sent is waited for, and not
+    applied twice."""
 
 
 class Busy(StoreError):
@@ -316,11 +274,7 @@ class NotAllowed(StoreError, PermissionError):
 
 
 class Misread(StoreError):
-    """The program wrote a line that answers no record that was sent: it isn't the program that this package knows."""
-
-
-class Incomplete(StoreError):
-    """The client doesn't know all edges of a version: the program says that it has others than those that it was asked for."""
+    """What came isn't the answer of a server that this package knows."""
 
 
 class Missing(StoreError, ImportError):

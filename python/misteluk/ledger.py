@@ -10,8 +10,8 @@ from typing import Any, Dict, List, NamedTuple, Optional, Sequence, Tuple
 
 from .engine.guard import FORKS, Guard, alone
 from .engine.operations import COMMANDS, EXPIRE, REMOVE, Operations, Row
-from .engine.protocol import Denied, Engine, Flight, Receipt
-from .errors import Busy, OperationsRefused, PoolEmpty, Refused, SessionClosed, StoreError, TooLarge, refusal
+from .engine.protocol import Denied, Engine, Flight
+from .errors import Busy, PoolEmpty, Refused, SessionClosed, StoreError, TooLarge, refusal
 from .values import records
 from .values.answers import Commit, Stat
 from .values.names import must_be_texts
@@ -187,7 +187,7 @@ class Ledger:
         if self.is_closed:
             raise StoreError("the store is closed")
         self._land()
-        return self._fly(batch, collect, False, feed).commit
+        return self._fly(batch, collect, False, feed)
 
     def settle(self) -> None:
         """Takes what became of a batch whose call was broken off."""
@@ -209,7 +209,7 @@ class Ledger:
         """Takes no more operations."""
         self.is_closed = True
 
-    def _fly(self, batch: Operations, collect: bool, of_pending: bool, feed: Optional[Feed] = None) -> Receipt:
+    def _fly(self, batch: Operations, collect: bool, of_pending: bool, feed: Optional[Feed] = None) -> Commit:
         flight = self.engine.flight(batch, collect)
         self._books = Books(self._books.untold, flight, of_pending, feed)
         try:
@@ -240,22 +240,15 @@ class Ledger:
         elif receipt is not None:
             self._book(flight, receipt)
 
-    def _book(self, flight: Flight, receipt: Receipt) -> Receipt:
+    def _book(self, flight: Flight, receipt: Commit) -> Commit:
         """Takes the operations of a batch from those that are pending, once, and keeps what it did."""
         books = self._books
         if books.of_pending and not flight.cut:
             flight.cut.extend(map(self.pending.__delitem__, (slice(flight.batch.size),)))
         if books.feed is not None:
             self._take(*books.feed)
-        self._books = Books((*books.untold, receipt.commit) if books.of_pending else books.untold)
-        if receipt.refused:
-            told = [self._refusal(flight.batch, at, word) for at, word in receipt.refused]
-            raise OperationsRefused(receipt.commit.version, told)
+        self._books = Books((*books.untold, receipt) if books.of_pending else books.untold)
         return receipt
-
-    def _refusal(self, batch: Operations, at: int, word: str) -> Refused:
-        line = self.terms.told(batch.rows[at])
-        return refusal(word, line, place=batch.place(at) if batch.place else None)
 
     # What is refused.
 
@@ -263,20 +256,14 @@ class Ledger:
         place = batch.place(0) if batch.place and batch.size else None
         if fault.stat is not None:
             needed = batch.asked(fault.stat.used)
-            return PoolEmpty(needed=needed, free=fault.stat.free, record=fault.record, place=place,
+            return PoolEmpty(needed=needed, free=fault.stat.free, place=place,
                              advice=self._room_advice(batch.size, needed, fault.stat))
         left = f"the batch of {batch.size} operations is pending still" if of_pending else ""
-        return refusal(fault.word, left, record=fault.record, place=place, advice=fault.advice)
+        return refusal(fault.word, left, place=place, advice=fault.advice)
 
     def _room_advice(self, size: int, needed: int, stat: Stat) -> str:
-        """What helps where a batch of so many operations needs more blocks than are free: only what wasn't done already."""
-        collect = "collect" + (", and before that close a session that holds an old version" if self.engine.open_count else "")
-        smaller, room = "make batches smaller", stat.free + stat.retired
-        ways = [collect] if stat.retired and room >= needed else []
-        if size > 1 and stat.free > needed - size:
-            ways.append(smaller)
-        elif size > 1 and not ways and room > needed - size:
-            ways.append(f"{collect}, and {smaller}")
+        """What helps where a batch of so many operations needs more blocks than are free, also where the store begins anew."""
+        ways = ["make batches smaller"] if size > 1 and stat.free + stat.retired > needed - size else []
         if self.engine.blocks < self.engine.most_blocks:
             ways.append(f"give the store more blocks ({self.engine.most_blocks:,} at most)")
         told = "; or ".join(ways)

@@ -28,7 +28,8 @@ class Part:
         made: Store[Any, Any] = Store(**(store or {}))
         self.close = weakref.finalize(self, made.close)
         try:
-            self.loaded = made.load(data, **{"progress": False, **load})
+            load.setdefault("progress", False)
+            self.loaded = made.load(data, **load)
             self.session: Session[Any, Any] = made.open()
         except BaseException:
             self.close()

@@ -18,7 +18,7 @@ from . import files
 from .values import records
 from .engine.copies import Content, content_of, operations_of
 from .engine.operations import REMOVE, Operations, Row, records_of, row_of
-from .errors import Missing, OverLimit, PoolEmpty, SaveFault, StoreError
+from .errors import Missing, PoolEmpty, SaveFault, StoreError
 from .feeds.feed import escaped, parts_of
 from .engine.finding import Path
 from .values.names import MARK
@@ -207,19 +207,19 @@ def _told(head: str) -> Tuple[Dict[str, str], Dict[str, str]]:
 
 
 def restore(path: Path, make: "Callable[[int, Optional[int], Optional[str]], Store[Any, Any]]", blocks: Optional[int],
-            progress: Optional[bool], in_process: bool) -> "Store[Any, Any]":
+            progress: Optional[bool]) -> "Store[Any, Any]":
     """A store of a saved file. `make` makes it, with so many blocks, and a weight scale and times where those are said. See
     `Store.restore`."""
     found = read(path)
-    grows = in_process and blocks is None and "grows" in found.facts
+    grows = blocks is None and "grows" in found.facts
     size = records.MOST_OPERATIONS
     if grows:
         blocks = found.count("blocks")
     else:
         room = Room(found.operations)
         if blocks is None:
-            most = found.count("blocks") if in_process else min(found.count("blocks"), records.MOST_BLOCKS)
-            blocks = most if room.batch(most) else room.fitting() if in_process else min(room.fitting(), records.MOST_BLOCKS)
+            most = found.count("blocks")
+            blocks = most if room.batch(most) else room.fitting()
         size = _batch(os.fspath(path), found, room, blocks)
     scale = int(found.facts["weight_scale"]) if "weight_scale" in found.facts else None
     store: Optional[Store[Any, Any]] = None
@@ -227,7 +227,6 @@ def restore(path: Path, make: "Callable[[int, Optional[int], Optional[str]], Sto
         store = make(blocks, scale, found.facts.get("times"))
         store.engine.grows = grows
         store.engine.fit(found.count("names"), len({it[1] for it in found.operations}), found.count("needed"))
-        _must_fit(store, os.fspath(path), found, size)
         _fill(store, found, size, Progress(f"restoring {os.fspath(path)}", len(found.operations), progress))
         stat, wanted = store.stat(), (found.count("names"), found.count("edges"))
         if (stat.names, stat.edges) != wanted:
@@ -258,12 +257,3 @@ def _batch(name: str, found: Found, room: Room, blocks: int) -> int:
         raise PoolEmpty(needed=room.needed(1), free=blocks, text=f"{name} needs at least {room.needed(1)} blocks, and {blocks} "
                         "are said. Nothing is restored", advice="")
     return size
-
-
-def _must_fit(store: "Store[Any, Any]", name: str, found: Found, size: int) -> None:
-    """Raises where a program's records aren't enough."""
-    count, left = len(found.operations) + 2 * -(-len(found.operations) // (size or 1)) + 2, store.records_left
-    if left is not None and count > left:
-        raise OverLimit(f"{name} takes {count} records in batches of {size}, for which {store.blocks} blocks have room, where a "
-                        f"run takes {records.MOST_RECORDS}: with more blocks they are fewer. Nothing is restored",
-                        {"records": count})

@@ -44,9 +44,7 @@ class Session(Generic[W, T]):
     goes over the edges whose recent time, that of the last operation that touched them, is in the window. Times are in the
     store's units; a date without a time of day begins a window with its day, and ends one with its day's end.
 
-    Several threads may ask one session. Over a program neighbors, paths and all edges are asked for edge by edge: one record of
-    the run for each edge of the vertex, or of the graph, that the last version or an open session's may have. `RecordLimit` says
-    beforehand where too few are left. What was told of all edges once is kept, and costs no record again.
+    Several threads may ask one session.
     """
 
     def __init__(self, store: "Store[W, T]", held: Held) -> None:
@@ -368,7 +366,7 @@ class Session(Generic[W, T]):
         package zstandard is there.
 
         The file is written beside and renamed when it is whole and on the disk: a fault, an interrupt or a crash leaves what
-        was there, and a killed program perhaps a file beside it that ends in .part. Links and a file's rights stay. It has all
+        was there, and a killed process perhaps a file beside it that ends in .part. Links and a file's rights stay. It has all
         that answers depend on, and the store's units and names. Pending operations and other versions aren't in it.
 
         A copy takes two records for an edge whose times differ, for a name that has no edge in its place, and for each batch.

@@ -9,11 +9,11 @@ from decimal import Decimal
 from itertools import chain
 from types import TracebackType
 from typing import (TYPE_CHECKING, Any, Callable, Dict, Generic, Iterator, List, Literal, Optional, Sequence, Tuple, Type,
-                    TypeVar, Union, overload)
+                    TypedDict, TypeVar, overload)
 
 from .engine.finding import Path
 from .engine.guard import noting
-from .engine.making import LIBRARY, choose, make_engine
+from .engine.library import LibraryEngine
 from .engine.operations import ADD, EXPIRE, INSERT, REMOVE
 from .engine.protocol import Denied, Engine
 from .feeds.opening import reads
@@ -26,11 +26,29 @@ from .values.limits import Limits, within
 from .values.units import Amount, Moment, Units
 
 if TYPE_CHECKING:
+    from typing_extensions import Unpack
+
     from .feeds.following import Following
     from .feeds.spans import Span
     from .feeds.loading import Loaded
 
 R = TypeVar("R")
+
+
+class Beside(TypedDict, total=False):
+    """The options of a store that have no part in what its weights and times are."""
+
+    rounding: Optional[str]
+    blocks: Optional[int]
+    limits: Optional[Limits]
+    seats: int
+    endless: bool
+
+
+class OfStore(Beside, total=False):
+    """The same, and how weights are told."""
+
+    decimals: str
 
 
 class Store(Generic[W, T]):
@@ -45,16 +63,12 @@ class Store(Generic[W, T]):
     `insert`, `add` and `remove` are collected here and checked at once; `commit` applies them. Where a commit is refused, what
     it would have applied is pending still. The graph lives as long as the store, but for versions that sessions save as files.
 
-    `engine`: "library", in this process, or "program", `stinger run` in a process of its own, through pipes; else what the
-    variable MISTELUK_ENGINE says, and else the library: `LibraryNotFound` where it can't be loaded. `program` names the program
-    to run (see `find_program`), and so the second. A program shares no memory with what else this process loads; it takes 999,999
-    records.
+    The store is a library's, in this process: `LibraryNotFound` where it can't be loaded.
 
     `blocks`: how many blocks hold edges, from 16 on; each has room for 32 edges of one kind and source, and takes 1 KB once it is
-    used. Else the library has 65,536, and more once they are needed; a program has 16,384, and takes up to 65,536. `limits`: how
-    many vertices, kinds and batches a store in this process takes at most, and how large a weight (see `misteluk.Limits`).
-    `seats`: how many sessions may be open at once, 1 to 16. `workers`: how many threads of the program apply a batch, 1 to 8.
-    Any text is a name, of a vertex or a kind, but an empty one; `*` alone is no kind. See `misteluk.names`.
+    used. Else there are 65,536, and more once they are needed. `limits`: how many vertices, kinds and batches the store takes at
+    most, and how large a weight (see `misteluk.Limits`). `seats`: how many sessions may be open at once, 1 to 16. Any text is a
+    name, of a vertex or a kind, but an empty one; `*` alone is no kind. See `misteluk.names`.
 
     `weight_scale`: weights are decimal numbers of so many parts, as 100 for cents; else whole numbers. It divides a power of ten.
     A weight is an int, a `Decimal`, a float as it is printed, or a text; `BadWeight` where it is no whole number of parts, unless
@@ -65,71 +79,55 @@ class Store(Generic[W, T]):
     weights as "decimal" (`Decimal`) or "float". Where neither of the first two is said, the first load says both, unless an
     operation came before it.
     `endless`: whether names and kinds that have no edge are let go where there would be too many (see `renew`).
-    `timeout`: for how many seconds the program may neither read nor write while it is waited for; then `NoAnswer` is raised, and
-    the call may be made again.
 
-    One store may be used from several threads. An interrupt comes after a call of the library, and ends the waiting for one of
-    the program: what was applied is known to the next call. A fork can't use the store.
+    One store may be used from several threads. An interrupt comes after a call of the library: what was applied is known to the
+    next call. A fork can't use the store, and it has no copy.
     """
 
     @overload
     def __init__(self: "Store[int, int]", *, weight_scale: Literal[1], times: Optional[Literal["number"]] = None,
-                 decimals: str = "decimal", blocks: Optional[int] = None, seats: int = ..., workers: int = ...,
-                 program: Optional[Path] = None, timeout: float = ..., endless: bool = False,
-                 rounding: Optional[str] = None, engine: Optional[str] = None, limits: Optional[Limits] = None) -> None: ...
+                 **options: "Unpack[OfStore]") -> None: ...
 
     @overload
     def __init__(self: "Store[int, int]", *, weight_scale: Optional[Literal[1]] = None, times: Literal["number"],
-                 decimals: str = "decimal", blocks: Optional[int] = None, seats: int = ..., workers: int = ...,
-                 program: Optional[Path] = None, timeout: float = ..., endless: bool = False,
-                 rounding: Optional[str] = None, engine: Optional[str] = None, limits: Optional[Limits] = None) -> None: ...
+                 **options: "Unpack[OfStore]") -> None: ...
 
     @overload
     def __init__(self: "Store[int, datetime]", *, weight_scale: Optional[Literal[1]] = None, times: Literal["iso"],
-                 decimals: str = "decimal", blocks: Optional[int] = None, seats: int = ..., workers: int = ...,
-                 program: Optional[Path] = None, timeout: float = ..., endless: bool = False,
-                 rounding: Optional[str] = None, engine: Optional[str] = None, limits: Optional[Limits] = None) -> None: ...
-
-    @overload
-    def __init__(self: "Store[Decimal, int]", *, weight_scale: int, times: Optional[Literal["number"]] = None,
-                 decimals: Literal["decimal"] = "decimal", blocks: Optional[int] = None, seats: int = ..., workers: int = ...,
-                 program: Optional[Path] = None, timeout: float = ..., endless: bool = False,
-                 rounding: Optional[str] = None, engine: Optional[str] = None, limits: Optional[Limits] = None) -> None: ...
-
-    @overload
-    def __init__(self: "Store[Decimal, datetime]", *, weight_scale: int, times: Literal["iso"],
-                 decimals: Literal["decimal"] = "decimal", blocks: Optional[int] = None, seats: int = ..., workers: int = ...,
-                 program: Optional[Path] = None, timeout: float = ..., endless: bool = False,
-                 rounding: Optional[str] = None, engine: Optional[str] = None, limits: Optional[Limits] = None) -> None: ...
+                 **options: "Unpack[OfStore]") -> None: ...
 
     @overload
     def __init__(self: "Store[float, int]", *, weight_scale: int, times: Optional[Literal["number"]] = None,
-                 decimals: Literal["float"], blocks: Optional[int] = None, seats: int = ..., workers: int = ...,
-                 program: Optional[Path] = None, timeout: float = ..., endless: bool = False,
-                 rounding: Optional[str] = None, engine: Optional[str] = None, limits: Optional[Limits] = None) -> None: ...
+                 decimals: Literal["float"], **options: "Unpack[Beside]") -> None: ...
 
     @overload
-    def __init__(self: "Store[float, datetime]", *, weight_scale: int, times: Literal["iso"],
-                 decimals: Literal["float"], blocks: Optional[int] = None, seats: int = ..., workers: int = ...,
-                 program: Optional[Path] = None, timeout: float = ..., endless: bool = False,
-                 rounding: Optional[str] = None, engine: Optional[str] = None, limits: Optional[Limits] = None) -> None: ...
+    def __init__(self: "Store[float, datetime]", *, weight_scale: int, times: Literal["iso"], decimals: Literal["float"],
+                 **options: "Unpack[Beside]") -> None: ...
+
+    @overload
+    def __init__(self: "Store[Decimal, int]", *, weight_scale: int, times: Optional[Literal["number"]] = None,
+                 decimals: Literal["decimal"] = "decimal", **options: "Unpack[Beside]") -> None: ...
+
+    @overload
+    def __init__(self: "Store[Decimal, datetime]", *, weight_scale: int, times: Literal["iso"],
+                 decimals: Literal["decimal"] = "decimal", **options: "Unpack[Beside]") -> None: ...
 
     @overload
     def __init__(self: "Store[Any, Any]", *, weight_scale: Optional[int] = None, times: Optional[str] = None,
-                 decimals: str = "decimal", blocks: Optional[int] = None, seats: int = ..., workers: int = ...,
-                 program: Optional[Path] = None, timeout: float = ..., endless: bool = False,
-                 rounding: Optional[str] = None, engine: Optional[str] = None, limits: Optional[Limits] = None) -> None: ...
+                 **options: "Unpack[OfStore]") -> None: ...
 
-    def __init__(self, *, blocks: Optional[int] = None, seats: int = records.USUAL_SEATS, workers: int = records.USUAL_WORKERS,
-                 program: Optional[Path] = None, timeout: float = 60.0, weight_scale: Optional[int] = None,
-                 times: Optional[str] = None, decimals: str = "decimal", endless: bool = False,
-                 rounding: Optional[str] = None, engine: "Union[str, Engine, None]" = None,
-                 limits: Optional[Limits] = None) -> None:
+    def __init__(self, *, weight_scale: Optional[int] = None, times: Optional[str] = None, decimals: str = "decimal",
+                 rounding: Optional[str] = None, blocks: Optional[int] = None, limits: Optional[Limits] = None,
+                 seats: int = records.USUAL_SEATS, endless: bool = False) -> None:
         self._is_closed = True
         units = Units(1 if weight_scale is None else weight_scale, times or "number", decimals, rounding).checked()
-        self.engine = make_engine(engine, blocks, seats, workers, program, timeout, endless, limits)
-        self.seats = self.engine.seats
-        self.ledger = Ledger(self.engine, units, weight_scale is not None or times is not None)
+        self._begin(LibraryEngine(blocks, seats, endless, limits or Limits()), units,
+                    weight_scale is not None or times is not None)
+
+    def _begin(self, engine: Engine, units: Units, units_are_set: bool) -> None:
+        """Begins with an engine's empty store, or with that of a server."""
+        self.engine, self.seats = engine, engine.seats
+        self.ledger = Ledger(engine, units, units_are_set)
         self._renewals: List[Renewed] = []
         self._rebasing: Optional[Session[Any, Any]] = None
         self._is_closed = False
@@ -157,7 +155,7 @@ class Store(Generic[W, T]):
 
     @property
     def blocks(self) -> int:
-        """How many blocks it has. In this process they become more once they are needed, where none were said."""
+        """How many blocks it has. They become more once they are needed, where none were said."""
         return self.engine.blocks
 
     @property
@@ -178,7 +176,7 @@ class Store(Generic[W, T]):
         return self.ledger.terms.units
 
     def discard(self) -> int:
-        """Lets the pending operations go, and returns how many they were; those that were sent and not answered stay."""
+        """Lets the pending operations go, and returns how many they were; those that are on their way stay."""
         return self.ledger.discard()
 
     def commit(self, *, collect: bool = True, batch: int = records.MOST_OPERATIONS) -> Commit:
@@ -186,8 +184,8 @@ class Store(Generic[W, T]):
 
         A collection follows each batch, as in a load, unless `collect=False`. A refused batch changes nothing, and stays pending
         with those after it: `PoolEmpty`, `NamesFull`, `KindsFull`, `BatchLimit` say why, and have as `applied` what the batches
-        before it did. Where an interrupt or `NoAnswer` broke a commit off, a batch that was begun is applied once, and those
-        after it stay pending; the next commit has in its sums what wasn't told.
+        before it did. Where an interrupt broke a commit off, a batch that was begun is applied once, and those after it
+        stay pending; the next commit has in its sums what wasn't told.
         """
         try:
             done = self.ledger.commit(collect, within("batch", batch, 1, records.MOST_OPERATIONS))
@@ -233,8 +231,7 @@ class Store(Generic[W, T]):
 
         def make(found: int, weight_scale: Optional[int], times: Optional[str]) -> "Store[Any, Any]":
             return cls(blocks=found, weight_scale=weight_scale, times=times, **options)
-        in_process = choose(options.get("engine"), options.get("program")) == LIBRARY
-        return restore(path, make, blocks, progress, in_process)
+        return restore(path, make, blocks, progress)
 
     # Requests.
 
@@ -271,9 +268,9 @@ class Store(Generic[W, T]):
         """Begins the store anew with the graph of the version that the session holds, which is version 0 from then on.
 
         What was applied before is let go, with its memory, and batches are counted anew. All sessions are closed, and what is
-        pending stays pending. Both stores are there while it works, and so there has to be memory for twice the blocks. In this
-        process `PoolEmpty` says that a copy of an older version finds too few blocks; nothing is changed then. Where `NoAnswer`
-        or an interrupt broke the call off, the same one finds what it did, and does it no second time.
+        pending stays pending. Both stores are there while it works, and so there has to be memory for twice the blocks.
+        `PoolEmpty` says that a copy of an older version finds too few blocks; nothing is changed then. Where an interrupt broke
+        the call off, the same one finds what it did, and does it no second time.
         """
         if session.store is not self:
             raise ValueError(f"{session!r} is another store's")
@@ -296,10 +293,10 @@ class Store(Generic[W, T]):
         return done
 
     def renew(self) -> Renewed:
-        """Begins anew with the last version's edges, as a store in this process does of itself before it is full of batches, or
-        of blocks that only sessions need. Versions count on, what is pending stays so, and open sessions hold their versions.
-        An endless store also lets go, where a batch would leave too many, the names and kinds that have no edge; a request for
-        one then raises `NoVertex` or `NoKind`. A program can't do so, and raises `StoreError`."""
+        """Begins anew with the last version's edges, as a store does of itself before it is full of batches, or of blocks that
+        only sessions need. Versions count on, what is pending stays so, and open sessions hold their versions. An endless store
+        also lets go, where a batch would leave too many, the names and kinds that have no edge; a request for one then raises
+        `NoVertex` or `NoKind`. That of a server raises `StoreError`."""
         self.ledger.settle()
         self._renewals.append(self.engine.renew())
         return self._renewals[-1]
@@ -311,25 +308,14 @@ class Store(Generic[W, T]):
 
     @property
     def operations_kept(self) -> Optional[int]:
-        """How many operations a store in this process keeps: 0, but with a limit on batches those since it began, or began anew;
-        `None` for another one."""
+        """How many operations the store keeps: 0, but with a limit on batches those since it began, or began anew; `None` for
+        that of a server."""
         return self.engine.operations_kept
-
-    @property
-    def records_sent(self) -> int:
-        """How many records the program has had; it takes 999,999. The library has none."""
-        return self.engine.records_sent
-
-    @property
-    def records_left(self) -> Optional[int]:
-        """How many records the program takes still; `None` in this process, where nothing is counted."""
-        return self.engine.records_left
 
     # The end.
 
     def close(self) -> None:
-        """Closes sessions and ends the engine. Raises `Uncommitted` where operations are pending, also where the program fails
-        (its text says both), and else `ProgramEnded` where the program tells of a fault."""
+        """Closes the sessions and ends the store. Raises `Uncommitted` where operations are pending, which are lost."""
         fault, told = self._end()
         None in told
         if fault is not None:
@@ -339,24 +325,17 @@ class Store(Generic[W, T]):
         """What is known of the operations that were pending."""
         return f"{len(lost)} operations were pending and are not applied"
 
-    def _end(self) -> "Tuple[Optional[StoreError], Iterator[Any]]":
-        """Ends the engine. Gives what is to be said of that, and notes that it was said. A fork ends nothing."""
+    def _end(self) -> "Tuple[Optional[Uncommitted], Iterator[Any]]":
+        """Ends the engine. Gives what is lost by that, and notes that it was said. A fork ends nothing."""
         if self._is_closed or self.engine.is_elsewhere:
             return None, iter(())
         self.ledger.end()
-        with suppress(StoreError):  # (what was refused is pending still, and a program that ended tells so when it is closed)
+        with suppress(StoreError):  # (what was refused is pending still)
             self.ledger.settle()
-        ended: Optional[StoreError] = None
-        try:
-            self.engine.close()
-        except StoreError as fault:
-            ended = fault
+        self.engine.close()
         lost = self.ledger.told_pending
-        if lost:
-            text = f"{ended}; and {Store._told_of_lost(self, lost)}" if ended else self._told_of_lost(lost)
-            uncommitted = Uncommitted(f"{text} (the error has them)" + ": commit or discard first" * (not ended), lost)
-            uncommitted.__cause__, ended = ended, uncommitted
-        return ended, noting(setattr, self, "_is_closed", True)
+        told = Uncommitted(f"{self._told_of_lost(lost)} (the error has them): commit or discard first", lost) if lost else None
+        return told, noting(setattr, self, "_is_closed", True)
 
     @property
     def is_closed(self) -> bool:
@@ -364,9 +343,18 @@ class Store(Generic[W, T]):
         return self._is_closed
 
     def kill(self) -> None:
-        """Ends the engine, whatever it does, with the graph and all that is pending."""
-        self.engine.kill()
+        """Ends the store with the graph and all that is pending."""
+        self.engine.close()
         self._is_closed = True
+
+    def __copy__(self) -> Any:
+        raise TypeError("a store has no copy: save a session, and restore the file")
+
+    def __deepcopy__(self, _: Any) -> Any:
+        return self.__copy__()
+
+    def __reduce__(self) -> Any:
+        raise TypeError("a store isn't pickled: save a session, and restore the file")
 
     def __enter__(self) -> "Store[W, T]":
         return self
@@ -375,11 +363,9 @@ class Store(Generic[W, T]):
                  trace: Optional[TracebackType]) -> None:
         if kind is None:
             return self.close()
-        second, told = self._end()
-        if second is not None and str(second) not in str(fault):
-            lost = second.operations if isinstance(second, Uncommitted) and second.__cause__ is None else ()
-            text = self._told_of_lost(lost) if lost else f"closing the store: {second}"
-            told = chain(noting(warnings.warn, text, None, 2), told)
+        lost, told = self._end()
+        if lost is not None:
+            told = chain(noting(warnings.warn, self._told_of_lost(lost.operations), None, 2), told)
         self in told  # (it makes both)
 
     def __del__(self) -> None:

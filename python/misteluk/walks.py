@@ -4,7 +4,6 @@ from __future__ import annotations
 from operator import add
 from typing import TYPE_CHECKING, Any, Dict, List, Mapping, Optional
 
-from .errors import Incomplete
 from .values.answers import Edge
 from .values.edges import Edges, Told
 from .values.units import Moment
@@ -19,10 +18,7 @@ def back(session: "Session[Any, Any]", levels: Mapping[str, int], target: str, k
     walk: List[Told] = []
     at = target
     while levels[at] > 0:
-        step = next((it for it in session.edges_into(at, kind, since, until) if levels.get(it[1]) == levels[at] - 1), None)
-        if step is None:
-            raise Incomplete(f"{at!r} has an edge from a vertex {levels[at] - 1} steps off, by the levels, and the client knows "
-                             "of none")
+        step = next(it for it in session.edges_into(at, kind, since, until) if levels.get(it[1]) == levels[at] - 1)
         walk.append(step)
         at = step[1]
     return walk[::-1]

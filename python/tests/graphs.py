@@ -1,7 +1,7 @@
 """A store beside a model of it: random operations, loads, expiries, held sessions and rebases."""
 import random
 
-from support import ENGINE, SERVED
+from support import IS_SERVED
 
 from misteluk import Edge, Store
 from misteluk.values import records
@@ -95,7 +95,7 @@ class Play:
             self.held.append((self.store.open(), self.now.copy()))
         elif chance < 0.7 and self.held:
             self.held.pop(self.random.randrange(len(self.held)))[0].close()
-        elif chance < 0.75 and self.held and not self.orderly and ENGINE != SERVED:  # (a server alone does so)
+        elif chance < 0.75 and self.held and not self.orderly and not IS_SERVED:  # (a server alone does so)
             session, graph = self.random.choice(self.held)
             self.store.rebase(session)
             self.now, self.held = graph.copy(), []

@@ -8,36 +8,25 @@ import os
 import random
 import signal
 import sys
-import threading
 import time
 import warnings
 
-from support import ENGINE, as_soon_as
+from support import HERE
 
 import misteluk
 from misteluk import Store
 
-PACKAGE = os.path.dirname(misteluk.__file__) + os.sep
+PACKAGE = f"{HERE.parent}/misteluk/"
 EDGES = {("l", "a", "b"): (5, 1, 1), ("l", "b", "c"): (7, 1, 1)}
 DEGREES = {"a": (1, 0, 5), "b": (1, 1, 7), "c": (0, 1, 0)}
-# For how many seconds a program may be silent: for long, since a busy machine's program may be; where a planted fault is to be
-# found, whose call may wait for an answer that never comes, for less.
-PATIENCE = {"timeout": 60.0}
-SOON = {"timeout": 0.5}
-# How many places of a call are tried, how many of those at its end, and how many may go wrong before a test ends. (A program has
-# to begin for each.)
-MOST_PLACES, AT_THE_END, MOST_WRONG = (30, 12, 50) if ENGINE == "library" else (4, 4, 50)
+# How many places of a call are tried, how many of those at its end, and how many may go wrong before a test ends.
+MOST_PLACES, AT_THE_END, MOST_WRONG = 30, 12, 50
 STEPS = {}
 
 
-def made_at_once(self, what, must=False, untaken=None):
+def made_at_once(self, what):
     """A fault to plant: calls are made by the caller itself, so that an interrupt comes between any two steps of them."""
     return what()
-
-
-def forget(self):
-    """A fault to plant: a request that was broken off is forgotten, though it was sent."""
-    self._now = None
 
 
 # The steps of Python's own after which none of its versions looks for a signal. It looks after calls and jumps back, and as a
@@ -121,7 +110,7 @@ class Scene:
 
     def __init__(self, **options):
         self.told, self.lost = [], []
-        self.store = Store(**{"blocks": 64, "seats": 3, **PATIENCE, **options})
+        self.store = Store(**{"blocks": 64, "seats": 3, **options})
         self.store.insert("l", "a", "b", 5, 1)
         self.store.insert("l", "b", "c", 7, 1)
         self.store.commit()
@@ -194,12 +183,11 @@ class Scene:
         self.close()
         self.close()
         assert self.lost == [LOST] and self.store.is_closed, self.lost
-        if self.store.engine.name == "library":
-            desks, mine = self.store.engine.handles.desks, self.session.held.desk.raw
-            self.session.held.desk = None
-            gc.collect()
-            self.store.engine.handles.give_back(self.store.engine.library)
-            assert not any(it.raw is mine for it in desks._known), "the desk"
+        desks, mine = self.store.engine.handles.desks, self.session.held.desk.raw
+        self.session.held.desk = None
+        gc.collect()
+        self.store.engine.handles.give_back(self.store.engine.library)
+        assert not any(it.raw is mine for it in desks._known), "the desk"
 
     def end(self):
         self.store.kill()
@@ -240,7 +228,6 @@ CALLS = {
     "end": Scene.close,
     "leave": Scene.leave,
 }
-OF_LIBRARY = {"renew", "end", "leave"}
 
 
 def after(name, scene):
@@ -263,10 +250,6 @@ def after(name, scene):
 IN_A_CALL = [False]
 
 
-def interrupt_now(*_):
-    raise KeyboardInterrupt
-
-
 def interrupt_in_a_call(_, frame):
     """Interrupts a call of the store, and not what the test does around it."""
     while frame is not None and not frame.f_code.co_filename.startswith(PACKAGE):
@@ -284,44 +267,6 @@ def handler(of_alarms):
     finally:
         signal.setitimer(signal.ITIMER_REAL, 0)
         signal.signal(signal.SIGALRM, before)
-
-
-def has_ended(process, seconds=120.0):
-    """Waits until the process came to its end, and was waited for; tells whether it did so."""
-    end = time.monotonic() + seconds
-    while process.returncode is None and time.monotonic() < end:
-        time.sleep(0.01)
-    return process.returncode is not None
-
-
-def at_each(make, call, is_right):
-    """Interrupts a call at each place, until it has no more; `is_right` is asked with the place."""
-    at, is_more = 0, True
-    while is_more:
-        at += 1
-        scene = make()
-        is_more = at_place(at, lambda: call(scene)) == at
-        is_right(scene, at)
-    return at
-
-
-def is_calling(store):
-    """Whether a call of a store over a program has begun."""
-    return bool(store.engine.calls._made)
-
-
-@contextlib.contextmanager
-def alarm_as_soon_as(is_so):
-    """Sends this process an alarm as soon as that is so, by a thread of its own."""
-    def strike():
-        as_soon_as(is_so)
-        os.kill(os.getpid(), signal.SIGALRM)
-    thread = threading.Thread(target=strike)
-    thread.start()
-    try:
-        yield
-    finally:
-        thread.join()
 
 
 # A store and a session that a fork has from its parent.

@@ -10,7 +10,7 @@ import tempfile
 import time
 import warnings
 
-from interrupting import IN_A_CALL, PATIENCE, handler, interrupt_in_a_call
+from interrupting import IN_A_CALL, handler, interrupt_in_a_call
 
 import misteluk
 from misteluk import Store, survey
@@ -22,8 +22,7 @@ class Model:
 
     def __init__(self, room, seed=7):
         self.random, self.room = random.Random(seed), room
-        self.store = Store(blocks=1024, seats=4, **PATIENCE)
-        self.is_library = self.store.engine.name == "library"
+        self.store = Store(blocks=1024, seats=4)
         # The edges, with weight, first and recent time; what is pending; the sessions, each with its edges; the last version.
         self.edges, self.pending, self.held, self.version = {}, [], [], 0
         self.steps = self.interrupts = self.clock = 0
@@ -50,7 +49,7 @@ class Model:
     def run(self, interrupts):
         calls = [self.operate] * 4 + [self.commit] * 3 + [self.open, self.close, self.ask, self.ask, self.table, self.count]
         calls += [self.load, self.told_late, self.rebase, self.save, self.commit_more]
-        calls += [self.renew, self.collect, self.end_store] * self.is_library
+        calls += [self.renew, self.collect, self.end_store]
         with warnings.catch_warnings():
             warnings.simplefilter("ignore", ResourceWarning)  # (Python closes what an interrupted `open` gave nobody)
             while self.interrupts < interrupts:
@@ -192,7 +191,7 @@ class Model:
         _, interrupted = self.call(lambda: session.save(path), "save")
         self.saved = [*self.saved[:interrupted], edges] if self.saved or not interrupted else []
         if self.saved:
-            store, is_broken = self.call(lambda: Store.restore(path, **PATIENCE), "restore")
+            store, is_broken = self.call(lambda: Store.restore(path), "restore")
             if not is_broken:
                 with store, store.open() as restored:
                     found = {it[:3]: it[3] for it in restored.edges()}
@@ -259,7 +258,7 @@ class Model:
         lost, interrupted = self.call(close, "close")
         lost = close() if interrupted else lost
         assert (len(lost), close(), self.store.is_closed) == (len(self.pending), [], True), (lost, self.pending)
-        self.__dict__.update(store=Store(blocks=1024, seats=4, **PATIENCE), edges={}, pending=[], held=[], version=0)
+        self.__dict__.update(store=Store(blocks=1024, seats=4), edges={}, pending=[], held=[], version=0)
 
     def end(self):
         self.store.kill()
@@ -270,5 +269,4 @@ if __name__ == "__main__":
         MODEL = Model(ROOM, int(sys.argv[2]) if len(sys.argv) > 2 else 7)
         MODEL.run(int(sys.argv[1]))
         MODEL.end()
-    print(f"{sys.version.split()[0]}: {MODEL.interrupts} interrupts in {MODEL.steps} steps, over the {MODEL.store.engine.name}: "
-          "nothing wrong, nothing lost")
+    print(f"{sys.version.split()[0]}: {MODEL.interrupts} interrupts in {MODEL.steps} steps: nothing wrong, nothing lost")

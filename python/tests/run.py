@@ -7,45 +7,26 @@ import re
 import subprocess
 import sys
 import time
-from typing import List, Tuple
+from typing import Tuple
 
-NAMED = os.environ.get("MISTELUK_ENGINE")  # (which `support` says where nobody does)
+from support import HERE, find_program, optional
+from misteluk import find_library
 
-from support import HERE, find_program, optional  # noqa: E402
-from misteluk import LibraryNotFound, find_library  # noqa: E402
-
-# What is said of a test that is of one engine, and so isn't missed over the other.
-OF_ONE_ENGINE = r"\.\.\. skipped 'of (?:pipes|the library|the program|stores in process) alone'"
-# Files of tests that make no store, that say themselves over which engine they run, or that interrupt the library's calls.
-ONCE = ("dates", "fields", "interrupted_loads", "interrupts", "lint", "package", "records", "release", "tables", "types",
-        "ways_in", "serve", "serve_access", "serve_alive", "serve_apart", "serve_clients", "serve_direct", "serve_docs",
-        "serve_door", "serve_end", "serve_faults", "serve_fuzz", "serve_kept", "serve_killed", "serve_page", "serve_pending",
-        "serve_people", "serve_posts", "serve_rejects", "serve_talk", "serve_versions")
+# What is said of a test that is of stores in process alone, and so isn't missed over those of a server.
+IN_PROCESS = r"\.\.\. skipped 'of stores in process alone'"
 # Files of tests that also run over stores that a server has, and what a server needs.
-SERVED = ("arrays", "closing", "names", "objects", "read_only", "store", "units", "view", "view_browsers", "view_dense",
-          "walking", "walking_calls")
+SERVED = ("against_program", "arrays", "closing", "names", "objects", "read_only", "store", "units", "view", "view_browsers",
+          "view_dense", "walking", "walking_calls")
 OF_SERVER = ("starlette", "uvicorn")
 
 
-def engines() -> List[str]:
-    """The engines that the tests run over: that of the variable MISTELUK_ENGINE, else the library, where it is, and the
-    program."""
-    if NAMED:
-        return [NAMED]
-    try:
-        print(f"python/check: the library is {find_library()}")
-    except LibraryNotFound as fault:
-        print(f"python/check: over the program alone: {fault}")
-        return ["program"]
-    return ["library", "program"]
-
-
-def run(part: Tuple[str, str]) -> Tuple[str, float, str]:
-    """Runs a file of tests over an engine, and gives its name, the seconds that it took, and what it said."""
-    begun, (name, engine) = time.monotonic(), part
+def run(part: Tuple[str, bool]) -> Tuple[str, float, str]:
+    """Runs a file of tests, also over stores of servers, and gives its name, the seconds that it took, and what it said."""
+    begun, (name, is_served) = time.monotonic(), part
     done = subprocess.run([sys.executable, "-W", "error::ResourceWarning", HERE / name, "-v"], stdout=subprocess.PIPE,
-                          stderr=subprocess.STDOUT, text=True, cwd=HERE, env={**os.environ, "MISTELUK_ENGINE": engine})
-    return f"{name[5:-3]} ({engine})", time.monotonic() - begun, done.stdout
+                          stderr=subprocess.STDOUT, text=True, cwd=HERE,
+                          env={**os.environ, **({"MISTELUK_SERVED": "1"} if is_served else {})})
+    return name[5:-3] + " (served)" * is_served, time.monotonic() - begun, done.stdout
 
 
 def reasons(text: str) -> str:
@@ -62,20 +43,19 @@ def main(*wanted: str) -> int:
     names = sorted(it for it in os.listdir(HERE) if re.fullmatch(r"test_\w+\.py", it))
     names = [it for it in names if not wanted or it[5:-3] in wanted]
     missing = [it for it in ("networkx", "pandas", "matplotlib", "tqdm", *OF_SERVER) if not optional(it)]
-    print(f"python/check: {sys.executable} ({sys.version.split()[0]}) runs {find_program()}")
+    print(f"python/check: {sys.executable} ({sys.version.split()[0]}) runs {find_program()} and "
+          f"{find_library()}")
     if missing:
         print(f"python/check: without {', '.join(missing)}: what needs them is passed over (apt-get install "
               f"{' '.join('python3-' + it for it in missing)})")
     passed = failed = passed_over = 0
     with concurrent.futures.ThreadPoolExecutor(max(2, len(os.sched_getaffinity(0)))) as pool:
-        over = engines()
-        parts = [(name, engine) for name in names for engine in (over[:1] if name[5:-3] in ONCE else over)]
-        if not NAMED and over[0] == "library" and not set(OF_SERVER) & set(missing):
-            parts += [(name, "served") for name in names if name[5:-3] in SERVED]
+        has_server = not set(OF_SERVER) & set(missing)
+        parts = [(name, False) for name in names] + [(name, True) for name in names if has_server and name[5:-3] in SERVED]
         for name, seconds, text in pool.map(run, parts):
             ran = re.search(r"(?m)^Ran (\d+) tests? in", text)
             bad = sum(map(int, re.findall(r"(?:failures|errors)=(\d+)", text.splitlines()[-1] if text else "")))
-            over_here = sum(map(int, re.findall(r"skipped=(\d+)", text))) - len(re.findall(OF_ONE_ENGINE, text))
+            over_here = sum(map(int, re.findall(r"skipped=(\d+)", text))) - len(re.findall(IN_PROCESS, text))
             # (from Python 3.12 on a part whose tests were all passed over isn't OK, and those of a class aren't counted as run)
             bad = bad if ran and (bad or re.search(r"(?m)^OK|^NO TESTS RAN \(skipped=", text)) else 1
             passed += len(re.findall(r"(?m)(?:^|\.\.\. )ok$", text))

@@ -1,14 +1,12 @@
 """Stores over a server, for tests that are of any engine: each store is a client's, of a server of its own in this process."""
 from __future__ import annotations
 
-import threading
-import warnings
-from typing import Any, List, Optional, Union
+from typing import Any, Optional
 from unittest import mock
 
 import misteluk.store
 from misteluk import Store
-from misteluk.engine.making import LIBRARY, make_engine
+from misteluk.engine.library import LibraryEngine
 from misteluk.engine.protocol import Engine
 from misteluk.ledger import Ledger
 from misteluk.serve.client import ServedEngine
@@ -36,14 +34,10 @@ class Own(ServedEngine):
             self.server.store.close()
 
 
-def made(engine: "Union[str, Engine, None]", blocks: Optional[int], seats: int, workers: int, program: Any, timeout: float,
-         endless: bool, most: "Optional[misteluk.Limits]") -> Engine:
-    """As `make_engine`, but that a server has the store for which none is named."""
-    if engine is not None or program is not None:
-        return make_engine(engine, blocks, seats, workers, program, timeout, endless, most)
-    begin: Any = Store
-    with mock.patch.object(misteluk.store, "make_engine", make_engine):
-        store = begin(engine=LIBRARY, blocks=blocks, seats=16, endless=endless, limits=most)
+def made(blocks: Optional[int], seats: int, endless: bool, limits: "misteluk.Limits") -> Engine:
+    """As `LibraryEngine`, but that a server has the store."""
+    with mock.patch.object(misteluk.store, "LibraryEngine", LibraryEngine):
+        store = Store(blocks=blocks, seats=16, endless=endless, limits=limits)
     server = Server(store, "127.0.0.1:0", limits=ServerLimits(idle=600))
     own = Own(server.start())
     own.seats = seats
@@ -57,6 +51,6 @@ def ledger_of(engine: Any, *given: Any) -> Ledger:
 
 
 def serve_all() -> None:
-    """From here on each store that names no engine is a server's."""
-    misteluk.store.make_engine = made
+    """From here on each store is a server's."""
+    misteluk.store.LibraryEngine = made  # type: ignore[misc, assignment]
     misteluk.store.Ledger = ledger_of  # type: ignore[misc, assignment]

@@ -10,7 +10,7 @@ import sys
 import unittest
 from typing import Any, Dict, NamedTuple, Optional
 
-from support import ENGINE, HERE, Case, optional
+from support import HERE, Case, optional
 
 import misteluk
 from misteluk.serve.limits import ServerLimits
@@ -19,7 +19,6 @@ from misteluk.serve.server import Server
 
 HAS_PACKAGES = all(map(optional, ("starlette", "uvicorn")))
 NO_PACKAGES = "starlette or uvicorn is not there"
-OF_LIBRARY = "of the library alone"
 FEED = (("add", "transfer", "ana", "funnel", 980, 1), ("add", "transfer", "ben", "funnel", 950, 1),
         ("add", "transfer", "funnel", "offshore", 3850, 3), ("add", "owes", "boss", "ana", 2100, 1))
 
@@ -46,7 +45,6 @@ class Clock:
         return self.now
 
 
-@unittest.skipUnless(ENGINE == "library", OF_LIBRARY)
 @unittest.skipUnless(HAS_PACKAGES, NO_PACKAGES)
 class ServeCase(Case):
     """A case with a server."""
@@ -63,7 +61,6 @@ class ServeCase(Case):
     def command(self, *words: str, **how: Any) -> "subprocess.Popen[str]":
         """`misteluk serve` as a process, which is killed at the end."""
         env = {**os.environ, "PYTHONPATH": str(HERE.parent)}
-        env.pop("MISTELUK_ENGINE", None)
         done = subprocess.Popen([sys.executable, "-m", "misteluk", "serve", *words], stdout=subprocess.PIPE,
                                 stderr=subprocess.PIPE, text=True, env=env, **how)
         self.addCleanup(done.communicate)

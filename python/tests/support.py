@@ -1,11 +1,10 @@
-"""What the tests share: the program that they run, and files and stand-ins for it."""
+"""What the tests share: stores, files, commands, and the program that they ask beside the client."""
 from __future__ import annotations
 
 import io
 import os
 import pathlib
 import re
-import stat
 import subprocess
 import sys
 import tempfile
@@ -14,11 +13,9 @@ import unittest
 from contextlib import redirect_stderr, redirect_stdout
 from typing import Any, Callable, Dict, List, Tuple
 
-# Which engine the tests run over: each file of them runs over the one and the other, but those of pipes alone.
-ENGINE = os.environ.setdefault("MISTELUK_ENGINE", "library")
-SERVED = "served"
+# Whether stores are a server's: some files of tests run over stores in this process, and over those too.
+IS_SERVED = "MISTELUK_SERVED" in os.environ
 IN_PROCESS = "of stores in process alone"
-OF_PIPES = "of pipes alone"
 HERE = pathlib.Path(__file__).resolve().parent
 TOP = HERE.parent.parent
 # Whether this is the repository, and no released archive.
@@ -30,9 +27,8 @@ from misteluk import Store, find_program  # noqa: E402
 from misteluk.command.main import main  # noqa: E402
 
 
-if ENGINE == SERVED:
+if IS_SERVED:
     import served
-    os.environ["MISTELUK_ENGINE"] = "library"
     served.serve_all()
 
 
@@ -64,7 +60,7 @@ class Case(unittest.TestCase):
     maxDiff = None
 
     def setUp(self) -> None:
-        if ENGINE == SERVED and self.id().partition(".")[2] in served.NOT_SERVED:
+        if IS_SERVED and self.id().partition(".")[2] in served.NOT_SERVED:
             self.skipTest(IN_PROCESS)
         room = tempfile.TemporaryDirectory()
         self.addCleanup(room.cleanup)
@@ -95,14 +91,6 @@ class Case(unittest.TestCase):
     def file(self, name: str, text: str) -> str:
         (self.room / name).write_text(text)
         return str(self.room / name)
-
-    def stand_in(self, body: str) -> str:
-        """A program in place of the store's: it answers `stat` as an empty store does, and then does as the text says."""
-        lines = ["#!" + sys.executable, "import os, sys, time", "sys.stdin.readline()",
-                 "print('stat v=0 names=0 edges=0 free=16384 retired=0 used=0', flush=True)", body]
-        path = pathlib.Path(self.file("stand_in", "\n".join(lines) + "\n"))
-        path.chmod(path.stat().st_mode | stat.S_IXUSR)
-        return str(path)
 
 
 class CommandCase(Case):

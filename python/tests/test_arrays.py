@@ -10,7 +10,7 @@ from decimal import Decimal
 from itertools import accumulate, product
 from unittest import mock
 
-from support import ENGINE, Case, optional
+from support import IN_PROCESS, IS_SERVED, Case, optional
 
 import misteluk
 from misteluk import Changed, Degree, Edge
@@ -220,7 +220,7 @@ class EdgesOfAVersion(Case):
                     self.assertEqual({it: Counter(other.edges_out_of(it)) for it in apart}, apart)
 
     @unittest.skipUnless(numpy, "numpy is not there")
-    @unittest.skipUnless(ENGINE == "library", "of the library alone")
+    @unittest.skipIf(IS_SERVED, IN_PROCESS)
     def test_edges_of_a_source_that_begin_elsewhere_are_found(self):
         rows = "insert k v1 v2 1 1", "insert k v2 v1 1 1", "insert l v1 v1 1 1"
         with mock.patch.object(fields, "MANY", 0), self.store(*rows).open() as session:

@@ -8,7 +8,7 @@ from unittest import mock
 
 from asking import ROWS, calls, plain
 from serving import ServeCase
-from support import ENGINE, Case
+from support import IN_PROCESS, IS_SERVED, Case
 
 import misteluk
 from misteluk import SessionClosed
@@ -124,28 +124,26 @@ class Meanwhile:
 
 
 class Closing(Meanwhile, Case):
-    @unittest.skipIf(ENGINE == "program", "of stores in process alone")
     def test_a_session_is_closed_at_each_step(self):
         store = self.store(*ROWS, seats=3)
         for by_instruction in (False, True):
             found = self.wrong(lambda: (store, store.open()), lambda store, session: session.close(), by_instruction,
-                               step=1 if ENGINE == "library" else 7)
+                               step=7 if IS_SERVED else 1)
             self.assertEqual(found, [])
         self.assertEqual(store.engine.open_count, 0)
 
-    @unittest.skipUnless(ENGINE == "library", "of the library alone")
+    @unittest.skipIf(IS_SERVED, IN_PROCESS)
     def test_a_store_is_closed_at_each_step(self):
         def opened():
             store = self.store(*ROWS)
             return store, store.open()
         self.assertEqual(self.wrong(opened, lambda store, session: store.close(), step=3), [])
 
-    @unittest.skipIf(ENGINE == "program", "of stores in process alone")
     def test_threads_ask_a_session_that_is_closed(self):
         store = self.store(*ROWS, seats=3)
         self.only_closed(lambda: (store, store.open()), lambda store, session: session.close())
 
-    @unittest.skipUnless(ENGINE == "library", "of the library alone")
+    @unittest.skipIf(IS_SERVED, IN_PROCESS)
     def test_threads_ask_a_session_whose_store_is_closed(self):
         def opened():
             store = self.store(*ROWS)

@@ -11,7 +11,7 @@ import unittest
 from contextlib import redirect_stderr, redirect_stdout
 
 from pages import CHROMIUM
-from support import (ENGINE, HERE, IS_REPOSITORY, NO_REPOSITORY, TOP, Case, CommandCase, find_program, optional,
+from support import (HERE, IS_REPOSITORY, NO_REPOSITORY, TOP, Case, CommandCase, find_program, optional,
                      words_of)
 
 import misteluk
@@ -19,7 +19,7 @@ from misteluk import pictures
 from misteluk.command.main import main
 from misteluk.values.answers import Degree
 from misteluk.command.options import make_parser
-from misteluk.engine.conversation import F_SETPIPE_SZ
+from misteluk.feeds.pipes import F_SETPIPE_SZ
 
 PAIRS = "from,to,n,t\na,b,1,10\na,c,2,11\nc,d,3,12\na,b,4,13\nx,y,5,14\n"
 OF_PAIRS = ("--source", "from", "--target", "to", "--weight", "n", "--time", "t")
@@ -132,22 +132,20 @@ class Commands(CommandCase):
     def test_save_and_restore(self):
         """What is saved is asked again; a file that is none is told of, and nothing is begun."""
         path = str(self.room / "g.csv.bz2")
-        count = 20 if ENGINE == "library" else 19  # (the file of a store in process says that it grows)
-        saved = f"{path}: version 1 with 6 names and 4 edges, in {count} records for `stinger run --blocks 16384`"
+        saved = f"{path}: version 1 with 6 names and 4 edges, in 20 records for `stinger run --blocks 16384`"
         degrees = "degrees: 6 names, greatest by out\n  a out 2 in 0 weight 7"
         self.load(f"{saved}\n{degrees}", "--add", "--save", path, "--ask", "degrees", "--top", "1")
         status, out, err = self.run_it("restore", path, "--ask", "degrees", "--top", "1", "--blocks", "64", "--levels", "x")
         levels = "levels from x: 2 reached, the farthest at 1\n  0: 1\n"
         wanted = f"{path}: 6 names and 4 edges restored in 3 of 64 blocks\n{degrees}\n{levels}"
         self.assertEqual((status, err, out), (0, "", wanted))
-        status, out, err = self.run_it("restore", self.file("p.csv", PAIRS), "--program", "/no/such")
+        status, out, err = self.run_it("restore", self.file("p.csv", PAIRS))
         self.assertEqual((status, out, "p.csv is no saved version" in err), (1, "", True), err)
 
     def test_faults(self):
         path = self.file("p.csv", PAIRS)
         for told, words in (("no column 'source'", ("load", path, "--add")),
                             ("No such file", ("load", "/no/such", "--add")),
-                            ("is no program", ("load", path, *OF_PAIRS, "--add", "--program", "/no/such")),
                             ("a.csv: columns are named, and there is no header: the file is empty", (
                                 "load", self.file("a.csv", ""), "--add")),
                             ("blocks is from 16", ("load", path, *OF_PAIRS, "--add", "--blocks", "7")),
@@ -178,7 +176,7 @@ class Commands(CommandCase):
         self.run_it("load", path, *OF_PAIRS, "--add", "--save", saved)
         for words in (("load", path, *OF_PAIRS, "--add"), ("restore", saved)):
             for place, told in (("/no/such/x", "'/no/such'"), (str(self.room), "Is a directory")):
-                status, out, err = self.run_it(*words, "--save", place, "--program", "/no/such/program")
+                status, out, err = self.run_it(*words, "--save", place)
                 self.assertEqual((status, out, told in err), (1, "", True), err)
 
     def test_bad_rows_are_passed_over_where_that_is_said(self):

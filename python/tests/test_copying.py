@@ -4,7 +4,7 @@ import random
 import unittest
 from unittest import mock
 
-from support import ENGINE, OF_PIPES, Case
+from support import Case
 
 import misteluk
 from misteluk.engine import copies as copying
@@ -92,17 +92,6 @@ class Copies(Case):
         self.assertEqual((active.kinds, active.names), (["road"], ["a", "b", "d"]))
         self.assertEqual(list(operations_of(active)), [(INSERT, "road", "a", "b", 1, 1), (INSERT, "road", "d", "b", 3, 3)])
         self.assertEqual(list(operations_of(copying.Content([], [], []))), [])
-
-    @unittest.skipUnless(ENGINE == "program", OF_PIPES)
-    def test_an_edge_that_wasn_t_told_of(self):
-        """What the program counts, and isn't among the candidates, is no copy."""
-        store = self.store("insert road a b 1 1")
-        session = store.open()
-        store.engine.talk.tell(b"i,road,a,c,5,5\n", 1)
-        store.engine.talk.settle(store.engine.talk.ask("commit\n"))
-        self.assertEqual(len(content_of(session.held).edges), 1)
-        with self.assertRaisesRegex(misteluk.Incomplete, "version 2 has 2 edges, and the client knows of 1"):
-            content_of(store.open().held)
 
 
 if __name__ == "__main__":

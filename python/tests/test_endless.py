@@ -6,7 +6,7 @@ import threading
 import unittest
 from unittest import mock
 
-from support import ENGINE, HERE, Case
+from support import HERE, Case
 
 import misteluk
 from misteluk import Limits, Edge, Store
@@ -14,13 +14,12 @@ from misteluk.engine import library
 from misteluk.values import limits
 
 
-@unittest.skipUnless(ENGINE == "library", "of the library alone")
 class Endless(Case):
     def test_it_goes_on(self):
         """Versions count on, sessions hold theirs, and what was pending is applied once."""
         store = self.store("add road ulm kiel 5 1", endless=True)
         session, renewed = store.open(), store.renew()
-        self.assertEqual(renewed[:4], (1, 2, 1, 0))
+        self.assertEqual(renewed[:3], (1, 2, 1))
         store.add("road", "kiel", "bonn", 7, time=2)
         self.assertEqual((store.commit().version, session.version, len(session)), (2, 1, 1))
         self.assertEqual(store.open().edge("road", "ulm", "kiel"), Edge(5, 1, 1))
@@ -151,7 +150,6 @@ class Endless(Case):
         self.assertEqual(list(store.open().edges()), edges)
 
 
-@unittest.skipUnless(ENGINE == "library", "of the library alone")
 class Level(Case):
     """A store keeps no operation that it has applied, unless its batches have a limit: then those since it began anew."""
 
@@ -275,7 +273,6 @@ class Level(Case):
         self.assertEqual(store.open().version, 10)
 
 
-@unittest.skipUnless(ENGINE == "library", "of the library alone")
 class Crowded(Case):
     """A batch that finds no room, for more than one reason."""
 
@@ -303,14 +300,6 @@ class Crowded(Case):
                 store.insert("k", f"s{at}", "t")
             self.assertEqual(store.commit().inserted, 90)
         self.assertEqual((store.stat()[:3], store.blocks), ((2, 181, 180), 512))
-
-
-@unittest.skipUnless(ENGINE == "program", "of the program alone")
-class Program(Case):
-    def test_it_says_so(self):
-        with self.assertRaisesRegex(ValueError, "an endless store is one in this process"):
-            Store(endless=True)
-        self.assertRaises(misteluk.NotRenewed, self.store().renew)
 
 
 if __name__ == "__main__":

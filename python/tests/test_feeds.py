@@ -9,7 +9,7 @@ import unittest
 from contextlib import redirect_stderr
 from unittest import mock
 
-from support import ENGINE, OF_PIPES, Case, optional
+from support import Case, optional
 
 import misteluk
 from misteluk import Columns, Edge, Feed
@@ -238,7 +238,7 @@ class Loads(Case):
         found = misteluk.survey(Feed("f", [(it, "k", f"v{it}", "hub", "1", "0") for it in range(1, 5_001)]), by="set")
         self.assertIn(" in 5000 blocks; batches of 4096 need 5000 blocks", str(found))
         store = self.store(blocks=10_000)
-        self.assertEqual(store.load(found, by="set").commit.batches, 1 if ENGINE == "library" else 2)
+        self.assertEqual(store.load(found, by="set").commit.batches, 1)
         self.assertIn(" in 0 blocks; 0 batches need 0 blocks", str(misteluk.survey(Feed("f", []), by="set")))
 
     def test_weights_that_would_leave_their_limits_are_told(self):
@@ -251,36 +251,6 @@ class Loads(Case):
             store.load(Feed("f", rows), by="set", **options)
         self.assertIn(told, str(fault.exception))
         self.assertEqual(store.stat().version, 0)
-
-    @unittest.skipUnless(ENGINE == "program", OF_PIPES)
-    def test_limits_are_told_before_anything_is_sent(self):
-        self.over("f has 65,538 vertices, where the store takes 65,536. A store in this process takes more (engine='library'). "
-                  "Nothing is loaded", [(1, "k", "a", f"b{it}", "1", "0") for it in range(65_537)])
-        self.over("f has 65 kinds, where the store takes 64", [(1, f"k{it}", "a", "b", "1", "0") for it in range(65)])
-        # Batch 17 of 4,096 begins behind row 65,536, where 63,000 blocks are in use.
-        self.over("63000 blocks for its edges and 67096 for its batches", [
-            (1, f"k{it % 2}", f"a{it % 63_000 // 2}", "b", "1", "0") for it in range(71_000)])
-
-    @unittest.skipUnless(ENGINE == "program", OF_PIPES)
-    def test_records_are_counted_before_anything_is_sent(self):
-        with mock.patch.object(records, "MOST_RECORDS", 100):
-            loaded = self.store().load(Feed("f", [(1, "k", "a", "b", "1", "0")] * 97), by="set", collect=False)
-            self.assertEqual(loaded.records, 98)
-            self.over("f has 101 records with its commits and collections, in 1 batches, and this run takes",
-                      [(1, "k", "a", "b", "1", "0")] * 99)
-
-    @unittest.skipUnless(ENGINE == "program", OF_PIPES)
-    def test_a_batch_that_is_refused_on_the_way(self):
-        """All rows stand in one block, and each batch retires one: behind seven batches 9 of 16 blocks are free."""
-        store = self.store(blocks=16)
-        held = store.open()
-        rows = [(it, "k", "a", f"b{it // 10}", "1", "0") for it in range(1, 101)]
-        with self.assertRaises(misteluk.PoolEmpty) as told:
-            store.load(Feed("f", rows), by="add", batch=10, collect=False)
-        self.assertIn("f:71: PoolEmpty", str(told.exception))
-        self.assertIn("the batch of lines 71 to 80 was refused, and neither it nor what comes behind it is in; 70 rows before it "
-                      "are. It needs 10 free blocks, and 9 are free", str(told.exception))
-        self.assertEqual((held.degrees(), store.stat().version), ({}, 7))
 
     def test_blocks_in_use_are_counted_before_anything_is_sent(self):
         store = self.store(*(f"insert k s{it} t 1 1" for it in range(10)), blocks=16)

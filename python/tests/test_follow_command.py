@@ -3,7 +3,6 @@ import fcntl
 import io
 import json
 import os
-import pathlib
 import re
 import signal
 import struct
@@ -15,7 +14,7 @@ import unittest
 from contextlib import redirect_stderr, redirect_stdout
 from unittest import mock
 
-from support import HERE, Case, as_soon_as, find_program
+from support import HERE, Case, as_soon_as
 from test_following import Model, some_rows, text_of
 
 from misteluk.command.main import main
@@ -30,9 +29,9 @@ def is_read(pipe):
 
 
 class FollowCommand(Case):
-    def start(self, file, *words, **options):
+    def start(self, file, *words, by=("-m", "misteluk"), **options):
         """The command, which reads what it follows from a pipe."""
-        command = [sys.executable, "-m", "misteluk", "follow", str(file), *OF_ROWS, *words]
+        command = [sys.executable, *by, "follow", str(file), *OF_ROWS, *words]
         pipe = subprocess.PIPE
         process = subprocess.Popen(command, **{"stdin": pipe, "stdout": pipe, "stderr": pipe, "cwd": HERE.parent, **options})
         self.addCleanup(self.end, process)
@@ -163,10 +162,11 @@ class FollowCommand(Case):
         self.assertEqual((process.wait(60), process.stdout.read()), (0, b""))
 
     def test_a_second_signal_ends_it_at_once(self):
-        """Also where the program doesn't answer."""
-        program = self.stand_in("time.sleep(60)")
+        """Also where a commit takes long."""
+        slow = ("import sys, time, misteluk.ledger; misteluk.ledger.Ledger.commit = lambda *_: time.sleep(60); "
+                "from misteluk.command.main import main; sys.exit(main(sys.argv[1:]))")
         for number in (signal.SIGINT, signal.SIGTERM):
-            process = self.start("-", "--every", "0", "--program", program)
+            process = self.start("-", "--every", "0", by=("-c", slow))
             os.write(process.stdin.fileno(), b"a,b,1,1\n")
             as_soon_as(lambda: is_read(process.stdin.fileno()))
             process.send_signal(number)
@@ -187,24 +187,6 @@ class FollowCommand(Case):
             process.send_signal(number)
         self.assertEqual((process.wait(60), process.stdout.read().count(b"1 rows to line 1")), (0, 1))
         self.assertEqual(process.stderr.read(), b"misteluk: standard input: 1 rows to line 1 are in\n")
-
-    def test_a_program_that_ends(self):
-        """That is told once, and by no line of the client's sources; also where no row comes behind it."""
-        script = f"#!/bin/sh\necho $$ > {self.room}/number\nexec \"{find_program()}\" \"$@\"\n"
-        program = pathlib.Path(self.file("program", script))
-        program.chmod(0o755)
-        ended = r"misteluk: the program was ended by signal 9"
-        lost = r" before record \d+ was answered; 1 rows of standard input, lines 2 to 2, were not answered, and the graph is "
-        for more, told in ((b"b,c,1,1\n", ended + lost + r"gone with the program\n"),
-                           (b"", r"misteluk: standard input: 1 rows to line 1 are in\n" + ended + r"\n")):
-            process = self.start("-", "--every", "0", "--program", str(program))
-            os.write(process.stdin.fileno(), b"a,b,1,1\n")
-            process.stdout.readline()
-            os.kill(int((self.room / "number").read_text()), signal.SIGKILL)
-            process.stdin.write(more)
-            process.stdin.close()
-            self.assertEqual(process.wait(60), 1)
-            self.assertRegex(process.stderr.read().decode(), f"^{told}$")
 
     def test_a_broken_pipe(self):
         """It ends quietly, where it has something to tell and where it hasn't."""

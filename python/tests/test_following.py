@@ -1,6 +1,5 @@
 """Feeds that are followed: files that grow, pipes, expiry, bad rows, interrupts. What is in is compared with a plain model, and
 tests that could miss a fault are made again with one that is planted."""
-import contextlib
 import os
 import random
 import signal
@@ -10,13 +9,12 @@ import unittest
 from unittest import mock
 
 import interrupting
-from interrupting import PATIENCE, handler, interrupt_in_a_call, made_at_once, places
-from support import ENGINE, OF_PIPES, Case, as_soon_as
+from interrupting import handler, interrupt_in_a_call, made_at_once, places
+from support import Case, as_soon_as
 
 import misteluk
 from misteluk import Columns, Store
-from misteluk.engine import calls
-from misteluk.feeds import following, growing
+from misteluk.feeds import calls, following, growing
 
 COLUMNS = Columns(1, 2, weight=3, time=4)
 KIND = "link"
@@ -278,20 +276,6 @@ class Following(Case):
         with self.assertRaisesRegex(misteluk.PoolEmpty, "20 rows of .* are not in, and pending still"):
             next(followed)
 
-    @unittest.skipUnless(ENGINE == "program", OF_PIPES)
-    def test_a_program_that_ends(self):
-        store = self.store(blocks=64)
-        followed = self.follow(self.file("ends.csv", text_of(some_rows(30))), store, batch=10)
-        next(followed)
-        store.engine.talk.process.kill()
-        with self.assertRaises(misteluk.ProgramEnded) as told:
-            list(followed)
-        self.assertIn("10 rows of", str(told.exception))
-        self.assertIn("lines 11 to 20, were not answered, and the graph is gone with the program", str(told.exception))
-        store.discard()
-        with contextlib.suppress(misteluk.StoreError):
-            store.close()
-
     def test_what_can_t_be_followed(self):
         store, path = self.store(blocks=64), self.file("p.csv", "a,b,1,1\n")
         for fault, options in (("times are no dates|no dates here", {"keep": "14d"}), ("not 'x'", {"every": "x"}),
@@ -349,7 +333,7 @@ class Following(Case):
             """A feed that is followed to its end, in three steps, and those that were given."""
 
             def __init__(self):
-                self.store, self.steps = Store(blocks=64, **PATIENCE), []
+                self.store, self.steps = Store(blocks=64), []
                 self.followed = self.store.follow(path, by="add", batch=2, until_end=True, progress=False,
                                                     columns=Columns(1, 2, weight=3, time=4))
 

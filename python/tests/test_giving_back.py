@@ -8,7 +8,7 @@ import unittest
 from typing import List
 from unittest import mock
 
-from support import ENGINE, Case
+from support import Case
 
 import misteluk
 from misteluk import Edge
@@ -22,7 +22,6 @@ def resident() -> int:
     return sum(map(int, re.findall(r"(?m)^VmRSS:\s+(\d+) kB", text))) << 10
 
 
-@unittest.skipUnless(ENGINE == "library", "of the library alone")
 class GivingBack(Case):
     def sessions(self, store: misteluk.Store, count: int, is_read: bool = False) -> "List[misteluk.Session]":
         """So many sessions, each of a version of its own, that were asked and closed; of some all edges were read."""

@@ -1,29 +1,24 @@
 """An interrupt ends a call and nothing else: no answer is taken for another's, no batch is applied twice, no seat stays taken.
 
-Each call is interrupted in the calling thread between steps of Python's own, and while it waits; and calls are interrupted by a
-timer, with a model of the store. Each test is made again with a fault that is planted, and has to find it.
+Each call is interrupted in the calling thread between steps of Python's own; and calls are interrupted by a timer, with a model
+of the store. Each test is made again with a fault that is planted, and has to find it.
 """
-import ctypes
 import functools
 import gc
 import multiprocessing
 import os
 import signal
-import subprocess
-import threading
 import unittest
-import warnings
 import weakref
 from unittest import mock
 
-from interrupting import (CALLS, KNOWN, OF_LIBRARY, Scene, after, alarm_as_soon_as, at_each, at_place, elsewhere, handler,
-                          has_ended, interrupt_in_a_call, interrupt_now, is_calling, made_at_once, places)
+from interrupting import CALLS, KNOWN, Scene, after, elsewhere, handler, interrupt_in_a_call, places
 from modelled import Model
-from support import ENGINE, OF_PIPES, Case, as_soon_as
+from support import Case
 
 import misteluk
-from misteluk import Store, ledger, store
-from misteluk.engine import calls, library
+from misteluk import ledger, store
+from misteluk.engine import library
 
 ALL = {"MISTELUK_INTERRUPTS": "all"}
 
@@ -34,13 +29,11 @@ class Interrupts(Case):
 
     def test_each_call(self):
         for name in CALLS:
-            if ENGINE == "library" or name not in OF_LIBRARY:
-                with self.subTest(name):
-                    count, wrong = self.places(name)
-                    self.assertGreater(count, 10)
-                    self.assertEqual(wrong, [])
+            with self.subTest(name):
+                count, wrong = self.places(name)
+                self.assertGreater(count, 10)
+                self.assertEqual(wrong, [])
 
-    @unittest.skipUnless(ENGINE == "library", "of the library alone")
     def test_where_it_renews_itself(self):
         """Nothing is applied twice or lost, the session answers on, and versions are counted on, wherever the interrupt comes."""
         anew = functools.partial(Scene, limits=misteluk.Limits(batches=1))
@@ -61,9 +54,6 @@ class Interrupts(Case):
             self.assertGreater(len(self.places("commit", anew)[1]), 0)
 
     def test_each_call_finds_a_fault(self):
-        if ENGINE == "program":
-            with mock.patch.object(calls.Calls, "make", made_at_once):
-                self.assertGreater(len(self.places("edges")[1]), 2)
         with mock.patch.object(weakref, "ref", lambda it: lambda: it):
             self.assertGreater(len(self.places("open")[1]), 0)
         with mock.patch.object(ledger.Ledger, "_land", lambda _: None):
@@ -75,50 +65,9 @@ class Interrupts(Case):
             call(*given)
             return iter(())
         with mock.patch.object(store, "noting", early):
-            for name in ("commit", "nothing", "rebase") + ("end", "leave") * (ENGINE == "library"):
+            for name in ("commit", "nothing", "rebase", "end", "leave"):
                 with self.subTest(name):
                     self.assertGreater(len(self.places(name)[1]), 0)
-
-    def waiting(self, name, interrupt):
-        """A scene whose call is interrupted while it waits for the program, which stands still meanwhile."""
-        scene = Scene()
-        self.addCleanup(scene.end)
-        process = scene.store.engine.talk.process
-        process.send_signal(signal.SIGSTOP)
-        try:
-            interrupt(scene.store, lambda: CALLS[name](scene), lambda: process.send_signal(signal.SIGCONT))
-        finally:
-            process.send_signal(signal.SIGCONT)
-        self.assertTrue(after(name, scene))
-
-    def by_alarm(self, store, call, _):
-        with self.assertRaises(KeyboardInterrupt), alarm_as_soon_as(lambda: is_calling(store)):
-            call()
-
-    def in_a_thread(self, store, call, go_on):
-        """An exception is set for a thread that waits; it comes when the answer is there."""
-        told = []
-
-        def run():
-            try:
-                call()
-            except KeyboardInterrupt:
-                told.append("interrupted")
-        thread = threading.Thread(target=run)
-        thread.start()
-        as_soon_as(lambda: is_calling(store))
-        ctypes.pythonapi.PyThreadState_SetAsyncExc(ctypes.c_ulong(thread.ident), ctypes.py_object(KeyboardInterrupt))
-        go_on()
-        thread.join()
-        self.assertEqual(told, ["interrupted"])
-
-    @unittest.skipUnless(ENGINE == "program", OF_PIPES)
-    def test_while_it_waits(self):
-        with handler(interrupt_now):
-            for name in CALLS:
-                for how in (self.by_alarm, self.in_a_thread):
-                    with self.subTest(name, how=how.__name__):
-                        self.waiting(name, how)
 
     def test_operations_are_kept_once_or_not_at_all(self):
         for word, given in (("insert", "kst"), ("add", "kst"), ("remove", "kst"), ("expire", (3,)), ("discard", ())):
@@ -128,70 +77,8 @@ class Interrupts(Case):
             self.assertGreater(count, 5)
             self.assertEqual(wrong, [])
 
-    @unittest.skipUnless(ENGINE == "program", OF_PIPES)
-    def test_the_end(self):
-        """A store that is closed, or left by a `with`, at whatever line it is interrupted: its program is ended."""
-        def leave(store):
-            store.__exit__(None, None, None)
-
-        def right(store, at):
-            process = store.engine.talk.process
-            self.forget(store)
-            self.assertTrue(has_ended(process), at)
-        for call in (Store.close, leave):
-            self.assertGreater(at_each(lambda: Store(timeout=5), call, right), 5)
-
-    def forget(self, store):
-        """Makes the call that was interrupted again, where it wasn't made."""
-        with warnings.catch_warnings():
-            warnings.simplefilter("ignore")
-            store.close()
-
-    @unittest.skipUnless(ENGINE == "program", OF_PIPES)
-    def test_what_a_close_loses_is_told(self):
-        """Also by the second one, where the first was interrupted while it waited."""
-        scene = Scene()
-        scene.store.engine.talk.process.send_signal(signal.SIGSTOP)
-        with handler(interrupt_now):
-            self.by_alarm(scene.store, scene.store.close, None)
-        scene.store.engine.talk.process.send_signal(signal.SIGCONT)
-        with self.assertRaises(misteluk.Uncommitted) as told:
-            scene.store.close()
-        self.assertEqual(told.exception.operations, ["a,l,a,b,1,2\n"] * 3)
-        self.assertTrue(has_ended(scene.store.engine.talk.process))
-
-    @unittest.skipUnless(ENGINE == "program", OF_PIPES)
-    def test_the_beginning(self):
-        """A store whose making is interrupted has no program, and leaves no thread that waits for more than its end."""
-        started, real = [], subprocess.Popen
-
-        def start(*given, **named):
-            started.append(real(*given, **named))
-            return started[-1]
-        with mock.patch.object(subprocess, "Popen", start), warnings.catch_warnings():
-            warnings.simplefilter("ignore")
-            def right(kept, _):
-                for it in kept:
-                    it.close()
-                gc.collect()
-            at = at_each(list, lambda kept: kept.append(Store()), right)
-            count = len(started)
-            with handler(interrupt_now), self.assertRaises(KeyboardInterrupt), alarm_as_soon_as(lambda: len(started) > count):
-                Store(program=self.silent())
-            gc.collect()
-            for it in started:
-                self.assertTrue(has_ended(it))
-        self.assertGreater(at, 20)
-
-    def silent(self):
-        """A program that doesn't answer."""
-        path = self.room / "silent"
-        path.write_text("#!/bin/sh\nsleep 60\n")
-        path.chmod(0o755)
-        return path
-
-    def test_a_fork_leaves_the_program_alone(self):
-        store = self.store("insert l a b 5 1", timeout=20)
+    def test_a_fork_leaves_the_store_alone(self):
+        store = self.store("insert l a b 5 1")
         session = store.open()
         KNOWN[:] = store, session
         self.addCleanup(KNOWN.clear)
@@ -199,9 +86,9 @@ class Interrupts(Case):
             self.assertEqual(pool.map(abs, [-1, 2]), [1, 2])
             self.assertEqual(pool.apply(elsewhere), ["another process's"] * 4 + ["closed", "closed"])
             self.assertEqual((store.stat().edges, session.edge("l", "a", "b")), (1, (5, 1, 1)))
-            store.close()  # (where a fork had a pipe still, the program's end would be waited for in vain, and that be told)
+            store.close()
 
-    def test_a_fork_that_ends_ends_no_program(self):
+    def test_a_fork_that_ends_ends_no_store(self):
         store = self.store("insert l a b 5 1")
         child = os.fork()
         if child == 0:
@@ -219,14 +106,12 @@ class Interrupts(Case):
         self.assertGreater(model.steps, 100)  # (on a quiet machine fewer steps than interrupts)
 
     def test_three_hundred_find_a_fault(self):
-        for where, name, fault in ((ledger.Ledger, "_land", lambda _: None), *(
-                [(calls.Calls, "make", made_at_once)] if ENGINE == "program" else [])):
-            # An interrupt leaves the model only where it comes while a fault is on its way out of a call.
-            found = (Exception, KeyboardInterrupt)
-            with mock.patch.object(where, name, fault), handler(interrupt_in_a_call), self.assertRaises(found):
-                model = Model(self.room)
-                self.addCleanup(model.end)
-                model.run(300)
+        # An interrupt leaves the model only where it comes while a fault is on its way out of a call.
+        found = (Exception, KeyboardInterrupt)
+        with mock.patch.object(ledger.Ledger, "_land", lambda _: None), handler(interrupt_in_a_call), self.assertRaises(found):
+            model = Model(self.room)
+            self.addCleanup(model.end)
+            model.run(300)
 
     def test_a_handler_that_calls(self):
         """It has its answer, or is told that it interrupts another call; and the call that it interrupts has its own."""

@@ -1,9 +1,11 @@
 """The library in process: threads that ask at once, a store in a fork, thousands of stores, and a library that isn't the one."""
 import _ctypes
+import copy
 import gc
 import multiprocessing
 import os
 import pathlib
+import pickle
 import platform
 import resource
 import subprocess
@@ -12,11 +14,11 @@ import threading
 import unittest
 from unittest import mock
 
-from support import ENGINE, HERE, Case, find_program
+from support import HERE, Case
 
 import misteluk
 from misteluk import Edge, Store
-from misteluk.engine import calling, finding, interface, making
+from misteluk.engine import calling, finding, interface
 from misteluk.engine.finding import OF_LIBRARY, find_library
 from misteluk.engine.guard import Guard, Notes, Owned, alone
 
@@ -37,7 +39,6 @@ def answers():
                                 lambda: session.edges_out_of("a"), lambda: session.edge("k", "a", "b"))]
 
 
-@unittest.skipUnless(ENGINE == "library", "of the library alone")
 class InProcess(Case):
     def test_threads_ask_one_session(self):
         """While another feeds: each answer is the held version's."""
@@ -174,29 +175,21 @@ class InProcess(Case):
 
 class Choice(Case):
     def test_a_library_that_isn_t_there(self):
-        """No store takes another engine unasked: it says what to do. The program is taken where it is said, in each way."""
+        """Nothing stands for it: it says what to do."""
         with mock.patch.dict(os.environ, {OF_LIBRARY: "/no/such.so"}):
-            os.environ.pop(making.VARIABLE, None)
-            self.assertEqual(making.choose(), "library")
-            for options in ({}, {"engine": "library"}, {"blocks": 64}, {"endless": True}):
+            for options in ({}, {"blocks": 64}, {"endless": True}):
                 with self.assertRaises(misteluk.LibraryNotFound) as told:
                     Store(**options)
                 self.assertEqual(str(told.exception), "no file /no/such.so (named by MISTELUK_LIBRARY) is there. Have "
                                  "MISTELUK_LIBRARY name another one, or unset it: then the package's own is loaded, or the one "
                                  "that ./stinger library makes in the repository")
-            for options, variable in (({"engine": "program"}, ""), ({"program": find_program()}, ""), ({}, "program")):
-                with mock.patch.dict(os.environ, {making.VARIABLE: variable}), Store(blocks=64, **options) as store:
-                    self.assertEqual(store.engine.name, "program")
 
     def test_no_library_at_all(self):
         """Of a package that stands alone, as one that was installed without one."""
-        program, alone = find_program(), str(self.room / "there" / "misteluk" / "engine" / "finding.py")
-        said = {OF_LIBRARY: "", making.VARIABLE: ""}
-        with mock.patch.dict(os.environ, said), mock.patch.object(finding, "__file__", alone):
+        alone = str(self.room / "there" / "misteluk" / "engine" / "finding.py")
+        with mock.patch.dict(os.environ, {OF_LIBRARY: ""}), mock.patch.object(finding, "__file__", alone):
             self.assertRaisesRegex(misteluk.LibraryNotFound, "^no libmisteluk.so is here. Make it by ./stinger library in the "
                                    "repository, or install the wheel of a release, or have MISTELUK_LIBRARY name a", Store)
-            with Store(engine="program", program=program, blocks=64) as store:
-                self.assertEqual(store.engine.name, "program")
 
     def test_a_library_of_elsewhere(self):
         """Of 32 bits, of another machine, and what is none: each tells the next step."""
@@ -207,29 +200,25 @@ class Choice(Case):
                                 ("of_another", of_another, f"it is there, of another machine than {platform.machine()}")):
             path = self.room / f"{name}.so"
             path.write_bytes(held)
-            with mock.patch.dict(os.environ, {OF_LIBRARY: str(path), making.VARIABLE: ""}):
+            with mock.patch.dict(os.environ, {OF_LIBRARY: str(path)}):
                 told = f"no library can be loaded: .*{why}.*Have MISTELUK_LIBRARY name another"
                 self.assertRaisesRegex(misteluk.LibraryNotFound, told, Store)
 
     def test_a_library_of_another_time(self):
         """One that lacks a function, and one of another interface."""
-        with mock.patch.dict(os.environ, {OF_LIBRARY: _ctypes.__file__, making.VARIABLE: ""}):
+        with mock.patch.dict(os.environ, {OF_LIBRARY: _ctypes.__file__}):
             self.assertRaisesRegex(misteluk.LibraryNotFound, "has no function misteluk_.*Have MISTELUK_LIBRARY name", Store)
         here = interface.INTERFACE
         with mock.patch.object(interface, "INTERFACE", 99), mock.patch.dict(calling._OPENED, clear=True), mock.patch.dict(
-                os.environ, {OF_LIBRARY: find_library(), making.VARIABLE: ""}):
+                os.environ, {OF_LIBRARY: find_library()}):
             self.assertRaisesRegex(misteluk.LibraryNotFound, f"interface {here}, and this needs 99. Have MISTELUK_LIBRARY", Store)
 
-    def test_what_is_said(self):
-        self.assertRaisesRegex(ValueError, "engine is 'library' or 'program'", Store, engine="pipes")
-        self.assertRaisesRegex(ValueError, "a program is named", Store, engine="library", program="stinger")
-        with mock.patch.dict(os.environ, {making.VARIABLE: "pipes"}):
-            self.assertRaisesRegex(ValueError, "MISTELUK_ENGINE is", Store)
-        with mock.patch.dict(os.environ, {making.VARIABLE: ""}):
-            self.assertEqual((making.choose(), making.choose("program"), making.choose(program="x")),
-                             ("library", "program", "program"))
-        with mock.patch.dict(os.environ, {making.VARIABLE: "program"}):
-            self.assertEqual((making.choose(), making.choose("library")), ("program", "library"))
+    def test_no_copy(self):
+        """A second store of the same handles would free them twice."""
+        store = self.store("insert k a b 1 1")
+        for call in (copy.copy, copy.deepcopy, pickle.dumps):
+            self.assertRaisesRegex(TypeError, "save a session, and restore the file", call, store)
+        self.assertEqual(store.stat().edges, 1)
 
 
 class Guarding(Case):

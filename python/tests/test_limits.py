@@ -1,20 +1,22 @@
 """How much a store takes: limits that are said, and a store in process that has more room once it is needed."""
 import functools
+import io
 import itertools
 import unittest
+from contextlib import redirect_stderr
 from unittest import mock
 
 from interrupting import CALLS, Scene, places
-from support import ENGINE, Case
+from support import Case
 
 import misteluk
-from misteluk import Columns, Limits, Store
+from misteluk import Columns, Limits, Store, survey
 from misteluk.command.main import main
 from misteluk.engine import interface, library
 from misteluk.feeds.feed import Feed
+from misteluk.feeds.limits import check
 from misteluk.values import limits
-
-OF_LIBRARY = "of the library alone"
+from misteluk.values.limits import OF_SCRIPT
 
 
 class OfLimits(unittest.TestCase):
@@ -66,7 +68,6 @@ class OfLimits(unittest.TestCase):
                 self.assertEqual((found.checked(), found.weight), (found, said.weight))
 
 
-@unittest.skipUnless(ENGINE == "library", OF_LIBRARY)
 class Room(Case):
     def path(self, count, begin=0):
         return [(f"v{it}", f"v{it + 1}") for it in range(begin, begin + count)]
@@ -254,8 +255,6 @@ class Room(Case):
                 self.assertEqual((restored.engine.grows, restored.blocks), (grows, 16_384 if grows else 32))
             with Store.restore(self.room / "saved.csv", blocks=64) as restored:
                 self.assertEqual((restored.engine.grows, restored.blocks), (False, 64))
-        with Store.restore(self.room / "saved.csv", engine="program") as restored:
-            self.assertEqual(restored.blocks, 32)
 
     def test_a_store_of_smaller_weights_loses_no_edge(self):
         """A version of larger weights isn't restored in it; a load says what wasn't set."""
@@ -277,26 +276,38 @@ class Room(Case):
         self.assertTrue(str(saved).endswith("more than `stinger run` takes"), saved)
         with Store.restore(self.room / "saved.csv") as restored:
             self.assertEqual((self.told(restored)[1:], restored.blocks), (self.told(store)[1:], 262_144))
-        self.assertRaises(misteluk.StoreError, Store.restore, self.room / "saved.csv", engine="program")
 
 
 class OfCommands(Case):
-    @unittest.skipUnless(ENGINE == "library", OF_LIBRARY)
     def test_more_than_a_program_takes(self):
-        """70,000 vertices, each with an edge, in a file."""
+        """70,000 vertices, each with an edge, in a file: a store takes them, and no script is written."""
         path = self.room / "many.csv"
         path.write_text("".join(f"a{it},a{it + 1}\n" for it in range(70_000)))
         words = ["--set", "--source", "1", "--target", "2"]
         self.assertEqual(main(["load", str(path), *words]), 0)
-        self.assertEqual(main(["load", str(path), *words, "--engine", "program"]), 1)
+        err = io.StringIO()
+        with redirect_stderr(err):
+            self.assertEqual(main(["load", str(path), *words, "--script", str(self.room / "script.csv")]), 1)
+        self.assertIn("has 70,001 vertices, where the store takes 65,536; 70000 blocks", err.getvalue())
+        self.assertIn(". A store of the client takes more. Nothing is loaded", err.getvalue())
+        self.assertFalse((self.room / "script.csv").exists())
         with Store() as store:
             store.load(path, by="set", columns=Columns(1, 2))
             with store.open() as session:
                 self.assertEqual((session.names, len(session), session.levels("a0")["a70000"]), (70_001, 70_000, 70_000))
 
-    def test_a_program_has_its_own(self):
-        with self.assertRaisesRegex(ValueError, "a store with limits of its own is one in this process"):
-            Store(engine="program", limits=Limits(vertices=9))
+    def test_blocks_that_no_script_has(self):
+        """Batch 17 of 4,096 begins behind row 65,536, where 63,000 blocks are in use."""
+        def told(rows):
+            with self.assertRaises(misteluk.OverLimit) as fault:
+                check(survey(rows, by="set"), limits=OF_SCRIPT, most_blocks=65_536)
+            return str(fault.exception)
+        rows = [(f"a{it % 32_768}", "b", 1, 0, "kl"[it // 32_768 % 2]) for it in range(65_536)]
+        self.assertIn("65536 blocks for its edges", told([*rows, *rows[:5_000]]))
+        self.assertIn("smaller batches don't help", told([*rows, *rows[:5_000]]))
+        self.assertIn("batches of 536 fit (batch=536, --batch 536)", told([*rows[:65_000], *rows[:9_000]]))
+
+    def test_kinds(self):
         with self.assertRaisesRegex(misteluk.OverLimit, "has 65 kinds, where the store takes 64"):
             self.store().load(Feed("f", [(1, f"k{it}", "a", "b", "1", "0") for it in range(65)]), by="set")
 

@@ -10,12 +10,12 @@ import threading
 import unittest
 from unittest import mock
 
-from support import ENGINE, HERE, OF_PIPES, Case, CommandCase, optional, words_of
+from support import HERE, Case, CommandCase, optional, words_of
 
 import misteluk
 from misteluk import Degree, Edge, Feed, Store
 from misteluk.command.main import named_edge
-from misteluk.values import names, records
+from misteluk.values import names
 from misteluk.values.names import NameTable, id_of, shown
 
 IVANOV, WANG, SPACES, LONG = "Иванов Пётр Сергеевич", "王小明", " a  b ", "x" * 120
@@ -167,15 +167,6 @@ class Stores(Case):
                 store.insert("k", IVANOV, 'a "b", c', 7)
                 store.remove("k", WANG, "b")
         self.assertEqual(told.exception.operations, [f'i,k,{IVANOV},"a ""b"", c",7,0\n', f"r,k,{WANG},b\n"])
-
-    @unittest.skipUnless(ENGINE == "program", OF_PIPES)
-    def test_an_operation_that_only_the_program_refuses(self):
-        store = self.store()
-        with mock.patch.object(records, "faults_of", lambda *_: []):
-            store.insert("k", IVANOV, "t", 1, 2 ** 63)
-        with self.assertRaises(misteluk.OperationsRefused) as told:
-            store.commit()
-        self.assertIn(f"i,k,{IVANOV},t,1,{2 ** 63}", str(told.exception))
 
 
 class Loads(Case):

@@ -5,7 +5,7 @@ import sys
 import unittest
 from datetime import datetime, timezone
 
-from support import ENGINE, HERE, OF_PIPES, Case
+from support import HERE, Case
 
 import misteluk
 from misteluk import Columns, Feed
@@ -198,24 +198,6 @@ class Advice(Case):
             store.open()
         self.assertEqual((str(told.exception), len(held)), ("all 16 seats hold sessions: close one", 16))
 
-    @unittest.skipUnless(ENGINE == "program", OF_PIPES)
-    def test_room(self):
-        """Of 16 blocks 8 are used and 8 replaced: what helps then, each time another thing."""
-        store = self.store(*(f"insert k a{it} b 1 0" for it in range(8)), blocks=16)
-        session = store.open()
-        self.feed(store, *(f"insert k a{it} b 2 0" for it in range(8)))
-        store.insert("k", "n0", "b")
-        more = "ive the store more blocks (65,536 at most)"
-        self.advised(store, f"Collect, and before that close a session that holds an old version; or g{more}")
-        session.close()
-        self.advised(store, f"Collect; or g{more}")
-        for it in range(1, 9):
-            store.insert("k", f"n{it}", "b")
-        self.advised(store, f"Collect, and make batches smaller; or g{more}")
-        store.collect()
-        self.advised(store, f"Make batches smaller; or g{more}")
-        self.advised(store, f"G{more}", batch=8)
-
     def advised(self, store, advice, **options) -> None:
         with self.assertRaises(misteluk.PoolEmpty) as told:
             store.commit(collect=False, **options)
@@ -254,17 +236,6 @@ class Advice(Case):
         self.assertIn("Make the store with blocks=30 or more; a batch", fault.exception.advice)
         self.assertIn("batches of 2 fit (batch=2, --batch 2)", fault.exception.advice)
         self.assertEqual(self.store(blocks=22).load(rows * 2, by="set", batch=2).commit.inserted, 20)
-
-    @unittest.skipUnless(ENGINE == "program", OF_PIPES)
-    def test_blocks_that_no_program_has(self):
-        rows = [("a%d" % (it % 32_768), "b", 1, 0, "kl"[it // 32_768 % 2]) for it in range(65_536)]
-        with self.assertRaises(misteluk.OverLimit) as fault:
-            self.store().load([*rows, *rows[:5_000]], by="set")
-        self.assertIn("65536 blocks for its edges", str(fault.exception))
-        self.assertIn("smaller batches don't help", str(fault.exception))
-        with self.assertRaises(misteluk.OverLimit) as fault:
-            self.store().load([*rows[:65_000], *rows[:9_000]], by="set")
-        self.assertIn("batches of 536 fit (batch=536, --batch 536)", str(fault.exception))
 
 
 class StandardInput(Case):

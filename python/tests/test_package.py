@@ -194,8 +194,8 @@ class Installs(Case):
                     wanted_here = "not proved (" if "UN" in page else "proved ("
                     self.assertTrue(made(str(program)).startswith(wanted_here))
                 self.install("--upgrade", self.top / "python")
-                found = self.doctor("--engine", "program")
-                self.assertIn(f"program: {self.there}/misteluk/bin/stinger; {self.proved(wanted)}", found)
+                found = self.doctor()
+                self.assertIn(f"program stinger: {self.there}/misteluk/bin/stinger; {self.proved(wanted)}", found)
                 library = f"{self.there}/misteluk/lib/libmisteluk.so; {self.proved(wanted)}; interface {INTERFACE}"
                 self.assertIn(f"library: {library}", found)
 
@@ -231,19 +231,16 @@ class Installs(Case):
         self.assertIn("LibraryNotFound: no libmisteluk.so is here. Make it by ./stinger library in the repository, or install "
                       "the wheel of a release, or have MISTELUK_LIBRARY name a libmisteluk.so", told)
         found = self.doctor()
-        self.assertIn("engine: library", found)
         self.assertTrue(any(it.startswith("library: no libmisteluk.so is here. Make it by") for it in found[:-1]), found)
-        self.assertTrue(any(it.startswith("program: no program stinger is here") for it in found[:-1]), found)
+        self.assertTrue(any(it.startswith("program stinger: no program stinger is here") for it in found[:-1]), found)
         self.assertEqual(found[-2:], [none, 1])
         found = self.doctor(MISTELUK_LIBRARY="/no/such.so")
         self.assertIn("MISTELUK_LIBRARY is /no/such.so", found)
         self.assertTrue(any(it.startswith("library: no file /no/such.so (named by MISTELUK_LIBRARY) is there. Have") for it in
                             found[:-1]), found)
         self.assertEqual(found[-2:], [none, 1])
-        found = self.doctor("--engine", "program")
-        self.assertEqual(found[-2:], [none.replace("library", "program"), 1])
         found = self.doctor(MISTELUK_LIBRARY=find_library())
-        self.assertEqual((found[2:3], found[-1]), (["engine: library"], 0))
+        self.assertEqual((found[2].startswith(f"library: {find_library()}; "), found[-1]), (True, 0))
 
     def test_an_editable_one(self):
         name = wheels.build_editable(str(self.room))

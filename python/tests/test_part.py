@@ -1,5 +1,5 @@
-"""A part: what it answers beside a store of its own, where it is made again, and on the workers of a cluster, one of which is killed
-amid questions; and the examples of docs/FLEET.md."""
+"""A part: what it answers beside a store of its own, where it is made again, and on the workers of a cluster, one of which is
+killed amid questions; and the examples of docs/FLEET.md."""
 import copy
 import doctest
 import logging
@@ -8,6 +8,7 @@ import pathlib
 import pickle
 import random
 import signal
+import tempfile
 import unittest
 import warnings
 from collections import defaultdict
@@ -18,6 +19,7 @@ import misteluk
 from misteluk import BadRows, BadWeight, Columns, NoAnswer, OverLimit, Part, Place, PoolEmpty, Store
 from misteluk.errors import Missing, refusal
 
+os.environ.setdefault("DASK_DISTRIBUTED__WORKER__MULTIPROCESSING_METHOD", "forkserver")  # (in a third of the time)
 PARTS, ROWS, WORKERS = 40, 1_500, 4
 HOW = {"by": "add", "columns": Columns(1, 2, weight=3, time=4), "weight_scale": 100, "times": "iso"}
 PAGE, ADDRESS = TOP / "docs/FLEET.md", "tcp://scheduler:8786"
@@ -118,11 +120,13 @@ class Clusters(Case):
     def setUpClass(cls):
         import dask
         from distributed import Client, LocalCluster
-        settings = dask.config.set({"distributed.scheduler.work-stealing": False, "distributed.worker.preload": [],
-                                    "distributed.comm.timeouts.connect": "60s"})
+        settings = dask.config.set({"distributed.scheduler.work-stealing": False, "distributed.comm.timeouts.connect": "60s"})
         settings.__enter__()
         cls.addClassCleanup(settings.__exit__, None, None, None)
-        cluster = LocalCluster(n_workers=WORKERS, threads_per_worker=1, dashboard_address=None, silence_logs=logging.CRITICAL)
+        folder = tempfile.TemporaryDirectory()
+        cls.addClassCleanup(folder.cleanup)
+        cluster = LocalCluster(n_workers=WORKERS, threads_per_worker=1, dashboard_address=None, silence_logs=logging.CRITICAL,
+                               local_directory=folder.name)
         cls.addClassCleanup(cluster.close)
         cls.client = Client(cluster)
         cls.addClassCleanup(cls.client.close)
@@ -150,7 +154,7 @@ class Clusters(Case):
     @unittest.skipUnless(optional("pandas"), "pandas is not there")
     def test_the_page_s_examples(self):
         text = PAGE.read_text(encoding="utf-8")
-        self.assertEqual(self.run_examples(text), 11)
+        self.assertEqual(self.run_examples(text), 15)
         self.assertRaises(AssertionError, self.run_examples, text.replace("    4\n", "    5\n"))
 
     def run_examples(self, text):
@@ -159,7 +163,8 @@ class Clusters(Case):
         os.chdir(TOP)
         self.addCleanup(os.chdir, here)
         examples = doctest.DocTestParser().get_doctest(text.replace(ADDRESS, self.address), {}, PAGE.name, str(PAGE), 0)
-        done = doctest.DocTestRunner(optionflags=doctest.IGNORE_EXCEPTION_DETAIL | doctest.ELLIPSIS).run(examples, out=told.append)
+        runner = doctest.DocTestRunner(optionflags=doctest.IGNORE_EXCEPTION_DETAIL | doctest.ELLIPSIS)
+        done = runner.run(examples, out=told.append)
         self.assertEqual(done.failed, 0, "".join(told))
         return done.attempted
 

@@ -12,7 +12,7 @@ from decimal import Decimal
 
 from asking import LATER, NO_ANSWERS, ROWS, awaited, calls, plain
 from serving import ServeCase
-from support import ENGINE, SERVED, Case, optional
+from support import IS_SERVED, Case, optional
 
 import misteluk
 from misteluk import Session
@@ -166,7 +166,7 @@ class ReadOnly(Asking, Case):
         session.save(self.room / "saved.csv")
         with misteluk.Store.restore(self.room / "saved.csv") as restored:
             self.assertEqual(self.all_told(asked_by(restored.open()), but), wanted)
-        if ENGINE != SERVED:
+        if not IS_SERVED:
             store.rebase(session)
             self.assertEqual(self.all_told(asked_by(store.open()), but), wanted)
 

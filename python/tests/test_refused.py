@@ -6,7 +6,7 @@ import contextlib
 import unittest
 from unittest import mock
 
-from support import ENGINE, Case
+from support import Case
 
 import misteluk
 from misteluk import KindsFull, Limits, NamesFull, NoMemory, PoolEmpty
@@ -64,7 +64,6 @@ def smaller_walls(most):
         yield
 
 
-@unittest.skipUnless(ENGINE == "library", "of the library alone")
 class Refusals(Case):
     def let_go(self, store):
         store.kill()

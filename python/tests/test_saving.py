@@ -1,4 +1,4 @@
-"""A saved version is restored exactly, by the client and by the program alone, and what is more than a run takes is told before.
+"""A saved version is restored exactly, by the client and by the program alone.
 
 Graphs are random, with removals, expiries, windows, loads and held sessions, beside a model in plain dicts. Comparisons are made
 again with faults that are planted, and have to find them.
@@ -6,17 +6,17 @@ again with faults that are planted, and have to find them.
 import gzip
 import hashlib
 import itertools
-import os
 import subprocess
 import unittest
 from unittest import mock
 
 from graphs import NAMES, Play
-from support import ENGINE, OF_PIPES, Case, find_program
+from support import Case, find_program
 
 import misteluk
 from misteluk import Store, names, saving
-from misteluk.engine import copies as copying, program as engine_program
+from misteluk.engine import copies as copying
+from misteluk.engine.protocol import WHOLE
 from misteluk.engine.operations import INSERT, Operations
 from misteluk.values import records
 
@@ -41,8 +41,9 @@ def answers_of(session, of_names):
 
 def rows_of(session):
     """The rows of every table of a session, in the program's names."""
-    asked = [(it, str(session.slot), "*", "0", str(records.MOST_TIME)) for it in ("deg", "comp", "core")]
-    return [row for it in asked for row in session.store.engine.ask(it, lambda _: session.names).rows]
+    held, names = session.held, session.held.names()
+    tables = zip(*held.degrees(WHOLE)), [(names[it],) for it in held.labels(WHOLE)], [(it,) for it in held.cores(WHOLE)]
+    return [" ".join(map(str, (name, *values))) for table in tables for name, values in zip(names, table)]
 
 
 def run_alone(script, *requests):
@@ -93,26 +94,6 @@ class Saving(Case):
                 except misteluk.StoreError as refused:  # (there are fewer names than the head tells)
                     found = "came of" in str(refused)
                 self.assertGreater(found, 0)
-
-    @unittest.skipUnless(ENGINE == "program", OF_PIPES)
-    def test_the_program_alone(self):
-        for seed in range(4):
-            session, graph = self.played(seed)[-1]
-            done = session.save(self.room / "s.csv.gz")
-            script = gzip.open(self.room / "s.csv.gz").read()
-            self.assertEqual((done.records, done.edges, done.names), (script.count(b"\n"), len(graph), len(graph.names)))
-            to_program = session.store.ledger.terms.names.to_program
-            whole = f"*,0,{records.MOST_TIME}"
-            edges = [records.record(("edge", "0", *map(to_program, it))).strip() for it in graph]
-            told, status = run_alone(script, "open,0", *(f"{it},0,{whole}" for it in ("deg", "comp", "core")), *edges, "stat")
-            self.assertEqual((status, [it for it in told if it.startswith("error")]), (0, []))
-            opened = max(at for at, it in enumerate(told) if it.startswith("open 0 v="))
-            rows = [it for it in told[opened + 1:len(told) - 1 - len(edges)]
-                    if not it.startswith(("deg 0 ", "comp 0 ", "core 0 "))]
-            self.assertEqual(rows, rows_of(session))
-            wanted = [f"edge 0 {it.weight} {it.first} {it.recent}" for it in graph.values()]
-            self.assertEqual(told[len(told) - 1 - len(edges):-1], wanted)
-            self.assertIn(f" names={len(graph.names)} edges={len(graph)} ", told[-1])
 
     def test_a_file_by_hand(self):
         """What is written of a small store: units, a text and its id, an edge of two times, a kind and names without edges."""
@@ -180,31 +161,34 @@ class Saving(Case):
         self.assertEqual((status, told[-1].split()[2:4]), (0, ["names=6004", "edges=6004"]))
         self.assertEqual(list(self.restored(self.room / "s.csv.gz").open().degrees()), texts)
 
-class Limits(Case):
-    """What is more than a run takes is told before anything is asked, written or begun."""
+    def test_the_program_alone(self):
+        for seed in range(4):
+            session, graph = self.played(seed)[-1]
+            done = session.save(self.room / "s.csv.gz")
+            script = gzip.open(self.room / "s.csv.gz").read()
+            self.assertEqual((done.records, done.edges, done.names), (script.count(b"\n"), len(graph), len(graph.names)))
+            to_program = session.store.ledger.terms.names.to_program
+            whole = f"*,0,{records.MOST_TIME}"
+            edges = [records.record(("edge", "0", *map(to_program, it))).strip() for it in graph]
+            told, status = run_alone(script, "open,0", *(f"{it},0,{whole}" for it in ("deg", "comp", "core")), *edges, "stat")
+            self.assertEqual((status, [it for it in told if it.startswith("error")]), (0, []))
+            opened = max(at for at, it in enumerate(told) if it.startswith("open 0 v="))
+            rows = [it for it in told[opened + 1:len(told) - 1 - len(edges)]
+                    if not it.startswith(("deg 0 ", "comp 0 ", "core 0 "))]
+            self.assertEqual(rows, rows_of(session))
+            wanted = [f"edge 0 {it.weight} {it.first} {it.recent}" for it in graph.values()]
+            self.assertEqual(told[len(told) - 1 - len(edges):-1], wanted)
+            self.assertIn(f" names={len(graph.names)} edges={len(graph)} ", told[-1])
 
-    @unittest.skipUnless(ENGINE == "program", OF_PIPES)
-    def test_records_of_the_run(self):
-        store = self.store("insert k a b 1 1", "insert k b c 2 2", "insert l b c 2 2")
-        session, before = store.open(), store.records_sent
-        store.engine.most_records = before + 3
-        with self.assertRaisesRegex(misteluk.RecordLimit, f"this one had {before}, and .* more were to be sent|this one had"):
-            session.save(self.room / "s.csv")
-        self.assertEqual(os.listdir(self.room), [])
-        store.engine.most_records = before + 20
-        session.save(self.room / "s.csv")
-        told = store.records_sent
-        session.save(self.room / "t.csv")
-        self.assertEqual(store.records_sent, told)
+
+class Limits(Case):
+    """What a copy takes."""
 
     def test_records_of_a_copy(self):
-        """A file of more records than a run takes is written, and no program takes it."""
+        """A file of more records than a run takes is written, and says so."""
         store = self.store(*(f"insert k a t{it} 1 {it}" for it in range(20)), *(f"add k a t{it} 1 99" for it in range(20)))
-        count = store.open().save(self.room / "s.csv").records
-        self.assertGreater(count, 40)
-        with mock.patch.object(engine_program.records, "MOST_RECORDS", 40), self.assertRaisesRegex(misteluk.OverLimit,
-                                                                                                   "takes 44 records"):
-            Store.restore(self.room / "s.csv", engine="program")
+        with mock.patch.object(records, "MOST_RECORDS", 40):
+            self.assertTrue(str(store.open().save(self.room / "s.csv")).endswith("more than `stinger run` takes"))
         with Store.restore(self.room / "s.csv") as restored:
             self.assertEqual(restored.stat().edges, 20)
 
@@ -220,7 +204,7 @@ class Limits(Case):
             with Store.restore(self.room / "s.csv", blocks=blocks) as copy, copy.open() as session:
                 self.assertEqual((copy.stat().used, sorted(session.edges())), (50, wanted))
         with self.assertRaisesRegex(misteluk.PoolEmpty, "needs at least 52 blocks, and 51 are said"):
-            Store.restore(self.room / "s.csv", blocks=51, program="/no/program")
+            Store.restore(self.room / "s.csv", blocks=51)
 
     def test_room_is_what_the_program_uses(self):
         for seed in range(3):

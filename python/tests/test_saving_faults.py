@@ -1,5 +1,5 @@
-"""What goes wrong while a version is saved, as an interrupt or a full disk, leaves the old file whole. A damaged file is refused,
-and an interrupted restore leaves no program. Tests are made again with faults that are planted, and have to find them."""
+"""What goes wrong while a version is saved, as an interrupt or a full disk, leaves the old file whole. A damaged file is refused.
+Tests are made again with faults that are planted, and have to find them."""
 import contextlib
 import errno
 import os
@@ -11,12 +11,11 @@ import unittest
 import warnings
 from unittest import mock
 
-from interrupting import at_line, has_ended
-from support import ENGINE, HERE, OF_PIPES, Case
+from interrupting import at_line
+from support import HERE, Case
 
 import misteluk
 from misteluk import Store, files, saving
-from misteluk.engine.program import ProgramEngine
 
 ENDINGS = ("", ".gz", ".xz", ".bz2")
 
@@ -37,14 +36,6 @@ def in_place(path):
     """A fault to plant: a file is written where the old one is."""
     with open(path, "wb") as file:
         yield file
-
-
-def end(process):
-    """Ends a program that a planted fault left."""
-    process.kill()
-    process.wait()
-    for it in (process.stdin, process.stdout, process.stderr):
-        it.close()
 
 
 class Faults(Case):
@@ -94,31 +85,13 @@ class Faults(Case):
         with mock.patch.object(files, "whole", in_place):
             self.assertGreater(len(self.lines(3)[1]), 0)
 
-    def left(self, step):
-        """How many programs were begun by restores that were interrupted, at each line of so many, and how many don't end."""
-        processes, real, at, is_more = [], subprocess.Popen, 1 - step, True
-
-        def start(*given, **named):
-            processes.append(real(*given, **named))
-            self.addCleanup(end, processes[-1])
-            return processes[-1]
-        with mock.patch.object(subprocess, "Popen", start):
-            while is_more:
-                at += step
-                stores = []
-                is_more = at_line(at, lambda: stores.append(Store.restore(self.path, blocks=64)))
-                for it in stores:
-                    it.close()
-        return len(processes), sum(not has_ended(it, 1 if step > 9 else 120) for it in processes)
-
-    @unittest.skipUnless(ENGINE == "program", OF_PIPES)
-    def test_an_interrupted_restore_leaves_no_program(self):
-        count, left = self.left(2)
-        self.assertGreater(count, 30)
-        self.assertEqual(left, 0)
-        with mock.patch.object(Store, "__exit__", lambda *_: None), mock.patch.object(Store, "__del__", lambda _: None), \
-                mock.patch.object(ProgramEngine, "__del__", lambda _: None):
-            self.assertGreater(self.left(20)[1], 0)
+    def test_what_is_killed(self):
+        """The process that saves, before the file has its name."""
+        code = ("import os, sys, misteluk; os.replace = lambda *_: os.kill(os.getpid(), 9); store = misteluk.Store(blocks=64); "
+                "store.open().save(sys.argv[1])")
+        done = subprocess.run([sys.executable, "-c", code, self.path], cwd=HERE.parent, timeout=60)
+        self.assertEqual((done.returncode, self.path.read_bytes() == self.old), (-9, True))
+        self.assertEqual(len([it for it in os.listdir(self.room) if it.endswith(".part")]), 1)
 
     def full(self):
         """After how many bytes a disk is full that makes a save leave another file than the old one."""
@@ -147,31 +120,11 @@ class Faults(Case):
         with files_of_at_most(20), self.assertRaisesRegex(OSError, "File too large: '.*/e.csv'$"):
             self.session.to_csv(self.room / "e.csv")
 
-    @unittest.skipUnless(ENGINE == "program", OF_PIPES)
-    def test_what_is_killed(self):
-        """The program while it is asked; and the process that saves, before the file has its name."""
-        code = ("import os, sys, misteluk; os.replace = lambda *_: os.kill(os.getpid(), 9); store = misteluk.Store(blocks=64); "
-                "store.open().save(sys.argv[1])")
-        done = subprocess.run([sys.executable, "-c", code, self.path], cwd=HERE.parent, timeout=60)
-        self.assertEqual((done.returncode, self.path.read_bytes() == self.old), (-9, True))
-        (part,) = (it for it in os.listdir(self.room) if it.endswith(".part"))
-        os.remove(self.room / part)
-        store = self.store("insert k a b 1 1", blocks=64)
-        session = store.open()
-        store.engine.talk.process.kill()
-        with self.assertRaises(misteluk.ProgramEnded):
-            session.save(self.path)
-        self.assertTrue(self.is_old())
-        with self.assertRaises(misteluk.ProgramEnded):
-            store.close()
-
     def test_places_that_can_t_be_written(self):
-        before = self.saver.records_sent
         os.symlink("/dev/full", self.room / "full")
         for fault, place in ((FileNotFoundError, "no/s.csv"), (IsADirectoryError, "."), (OSError, "full")):
             with self.assertRaises(fault):
                 self.session.save(self.room / place)
-        self.assertEqual(self.saver.records_sent, before)
         with mock.patch.dict("sys.modules", {"zstandard": None}), self.assertRaises(misteluk.Missing):
             self.session.save(self.room / "s.zst")
 

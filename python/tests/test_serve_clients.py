@@ -12,8 +12,8 @@ from contextlib import redirect_stderr, redirect_stdout, suppress
 from typing import List
 from unittest import mock
 
-from serving import FEED, OF_LIBRARY, ServeCase
-from support import ENGINE, HERE, Case, as_soon_as
+from serving import FEED, ServeCase
+from support import HERE, Case, as_soon_as
 
 import misteluk
 from misteluk import Busy, Edge, NoSeat, NoServer, NotAllowed, Served, SessionClosed, connect
@@ -266,7 +266,7 @@ class Commands(ServeCase):
 
     def test_what_isn_t_taken(self):
         for words, told in ((["--listen", "0.0.0.0:0"], "wants a token"), ([__file__], "a feed wants --set or --add"),
-                            (["--engine", "program"], "runs no program"), (["--listen", "nowhere"], "an address is"),
+                            (["--listen", "nowhere"], "an address is"),
                             (["--idle", "0", "--listen", "127.0.0.1:0"], "idle is a number"),
                             (["--token-file", "/none"], "No such file")):
             said = io.StringIO()
@@ -276,7 +276,6 @@ class Commands(ServeCase):
 
 
 class Packages(Case):
-    @unittest.skipUnless(ENGINE == "library", OF_LIBRARY)
     def test_without_them(self):
         """What is missing is asked for by its name, and a socket is left free."""
         path = self.room / "socket"

@@ -2,8 +2,8 @@
 import unittest
 from unittest import mock
 
-from serving import OF_LIBRARY, Clock
-from support import ENGINE, Case
+from serving import Clock
+from support import Case
 
 from misteluk import Busy, SessionClosed
 from misteluk.serve.board import Board, Full
@@ -12,7 +12,6 @@ from misteluk.serve.keeping import Keeper
 from misteluk.serve.limits import ServerLimits
 
 
-@unittest.skipUnless(ENGINE == "library", OF_LIBRARY)
 class Versions(Case):
     """The board, by a clock of its own."""
 

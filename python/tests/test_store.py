@@ -1,16 +1,12 @@
 """A store and its sessions. Values are worked out by hand."""
-import gc
 import pickle
 import unittest
-import warnings
 from unittest import mock
 
-from support import ENGINE, OF_PIPES, Case
+from support import Case
 
 import misteluk
 from misteluk import Commit, Degree, Edge, Rebased, Stat, Store
-from misteluk.values import records
-from misteluk.values.terms import Terms
 
 FUNNEL = ("insert transfer ana funnel 980 1", "insert transfer ben funnel 950 1", "insert transfer cyd funnel 990 2",
           "insert transfer dan funnel 970 2", "insert transfer funnel offshore 3850 3")
@@ -282,7 +278,7 @@ class Stores(Case):
         self.refused(misteluk.BadWeight, "weight '5.5'", lambda: store.insert("k", "a", "b", 5.5))
         self.refused(misteluk.BadWeight, "weight 'inf'", lambda: store.insert("k", "a", "b", float("inf")))
         self.refused(TypeError, "a kind and a name are texts, and not 7", lambda: store.insert("k", "a", 7))
-        self.assertEqual((store.pending, store.records_sent), (0, 1 if ENGINE == "program" else 0))
+        self.assertEqual(store.pending, 0)
 
     def test_floats_that_are_whole(self):
         """A float that is a whole number is that number, as in a row."""
@@ -330,11 +326,11 @@ class Stores(Case):
         store.open().close()
 
     def test_arguments(self):
-        for wrong in ({"blocks": 15}, {"blocks": 65_537 if ENGINE == "program" else 1 << 32}, {"seats": 17}, {"workers": 0},
-                      {"timeout": 0}, {"weight_scale": 0}, {"weight_scale": -1}, {"weight_scale": 3}):
+        for wrong in ({"blocks": 15}, {"blocks": 1 << 32}, {"seats": 17}, {"seats": 0}, {"weight_scale": 0}, {"weight_scale": -1},
+                      {"weight_scale": 3}):
             with self.assertRaises(ValueError):
                 Store(**wrong)
-        self.assertEqual(self.store("insert k a b 1 1", blocks=16, seats=16, workers=8).open(15).version, 1)
+        self.assertEqual(self.store("insert k a b 1 1", blocks=16, seats=16).open(15).version, 1)
 
     def test_nothing_is_lost_unsaid(self):
         with self.assertRaises(misteluk.Uncommitted) as told:
@@ -350,39 +346,6 @@ class Stores(Case):
             store.insert("k", "a", "b")
             self.assertEqual(store.discard(), 1)
         self.refused(misteluk.StoreError, "the store is closed", store.stat)
-
-    @unittest.skipUnless(ENGINE == "program", OF_PIPES)
-    def test_a_store_that_is_forgotten_ends_its_program(self):
-        store = Store()
-        process = store.engine.talk.process
-        with warnings.catch_warnings(record=True) as told:
-            warnings.simplefilter("always")
-            del store
-            gc.collect()
-        self.assertIn("without close()", str(told[0].message))
-        self.assertIsNotNone(process.poll())
-
-    @unittest.skipUnless(ENGINE == "program", OF_PIPES)
-    def test_a_run_takes_so_many_records(self):
-        with mock.patch.object(records, "MOST_RECORDS", 12):
-            store = self.store("insert k a b 1 1")
-            for it in range(6):
-                store.insert("k", "a", f"b{it}")
-            store.commit()
-            self.refused(misteluk.RecordLimit, "this one had 12, and 1 more were to be sent", store.stat)
-
-    @unittest.skipUnless(ENGINE == "program", OF_PIPES)
-    def test_operations_that_only_the_program_refuses(self):
-        store = self.store()
-        with mock.patch.object(Terms, "are_as_they_are", lambda *_: True):
-            for it in ("a", "", "c"):
-                store.insert("k", it, "t")
-        with self.assertRaises(misteluk.OperationsRefused) as told:
-            store.commit()
-        self.assertEqual((told.exception.version, len(told.exception.refused)), (1, 1))
-        self.assertIn("BadName: i,k,,t,1,0", str(told.exception))
-        self.assertEqual(store.pending, 0)
-        self.assertEqual(list(store.open().degrees()), ["a", "t", "c"])
 
 
 if __name__ == "__main__":

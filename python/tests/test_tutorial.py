@@ -14,7 +14,7 @@ import sys
 import unittest
 from collections import Counter, defaultdict
 
-from support import ENGINE, HERE, TOP, Case, find_program, optional
+from support import HERE, TOP, Case, find_program, optional
 
 TUTORIAL = TOP / "docs/TUTORIAL.md"
 
@@ -86,7 +86,6 @@ class Documents(Case):
         self.assertEqual(failed, 0, told.getvalue())
         return tried
 
-    @unittest.skipUnless(ENGINE == "library", "of the library alone")
     def test_the_conversations(self):
         self.assertGreater(self.conversations(TUTORIAL), 25)
         self.assertGreater(self.conversations(TOP / "README.md"), 1)
@@ -97,7 +96,6 @@ class Documents(Case):
         self.assertEqual(self.run_commands(TOP / "docs/USING.md"), 1)
 
     @unittest.skipUnless((TOP / ".git").exists(), "this is no clone")
-    @unittest.skipUnless(ENGINE == "library", "of the library alone")
     def test_a_clone_stays_clean(self):
         """Who types what the pages show at a clone's top leaves files that git passes over: the gate notes what passed of a clean
         clone alone."""

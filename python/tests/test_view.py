@@ -10,7 +10,7 @@ from collections import defaultdict
 from unittest import mock
 
 from pages import Reader
-from support import ENGINE, HERE, OF_PIPES, Case
+from support import HERE, Case
 
 import misteluk
 from misteluk import Edge, Store, view
@@ -236,14 +236,6 @@ class Views(Case):
             self.assertRaisesRegex(ValueError, "other units", view, first, "funnel", beside=other.open())
         last.close()
         self.assertRaises(misteluk.SessionClosed, view, first, "funnel", beside=last)
-
-    @unittest.skipUnless(ENGINE == "program", OF_PIPES)
-    def test_an_edge_that_the_client_doesnt_know(self):
-        """The program's degrees tell it, and no page is made without it."""
-        first, _ = self.pair(BEFORE, AFTER)
-        with mock.patch("misteluk.engine.index.Candidates.into", lambda *_: ["ana"]):
-            self.assertRaisesRegex(misteluk.Incomplete, "'funnel' has 1 edges out and 2 in, .* knows of 1 and 1", view, first,
-                                   "funnel")
 
     def test_two_stores(self):
         """The first session's stands before the other's, whatever their versions are."""

@@ -1,14 +1,12 @@
 """Neighbors, paths, reach and all edges, beside a model in plain dicts and beside networkx. Graphs are random, with removals,
 expiries, windows, loads, held sessions and rebases. Comparisons are made again with faults that are planted, and have to find
 them."""
-import os
 import unittest
 from unittest import mock
 
 from graphs import NAMES, Play
-from support import ENGINE, OF_PIPES, Case, optional
+from support import Case, optional
 
-import misteluk
 from misteluk import Edge, Neighbor, Session
 from misteluk.engine.protocol import Arrays
 from misteluk.values import records
@@ -108,8 +106,8 @@ class Walks(Case):
                 for session, graph in [*play.held, (last, play.now)]:
                     try:
                         differ += (beside or self.beside_the_model)(play.random, session, graph) if graph.names else []
-                    except misteluk.Incomplete:
-                        differ.append("incomplete")
+                    except StopIteration:
+                        differ.append("no step of a path")
         return differ
 
     def some(self, random_, graph):
@@ -155,22 +153,9 @@ class Walks(Case):
         self.planted("in", Session, "__contains__", lambda found: True)
         self.planted("within either way", Session, "edges_out_of", lambda found: found[:0])
         self.planted("edges", Arrays, "places", lambda found: found[1:])
-        self.planted("incomplete", Session, "edges_into", lambda found: found[:0])
+        self.planted("no step of a path", Session, "edges_into", lambda found: found[:0])
         if networkx:
             self.planted("to_networkx", Session, "to_networkx", lambda it: it.reverse(), beside=self.beside_networkx)
-
-    @unittest.skipUnless(ENGINE == "program", OF_PIPES)
-    def test_an_edge_that_the_client_does_not_know_is_told(self):
-        """Should a candidate be lost, calls that need all edges say so, and a path that would need it too."""
-        store = self.store("insert k a b 1 1", "insert k b c 1 1")
-        session = store.open()
-        right = store.engine.index.candidates()
-        store.engine.index._sorted = right.__class__(right.kinds, right.names, right.keys[:1])
-        for call in (session.edges, session.weights_in, lambda: session.to_csv(self.room / "x"),
-                     lambda: session.path("a", "c")):
-            with self.assertRaises(misteluk.Incomplete):
-                call()
-        self.assertEqual(os.listdir(self.room), [])
 
 
 if __name__ == "__main__":

@@ -1,86 +1,23 @@
-"""Calls that ask for neighbors, paths, reach and all edges: what they cost in records, what is refused, what files and frames
-get, and interrupts."""
+"""Calls that ask for neighbors, paths, reach and all edges: what is refused, what files and frames get, and interrupts."""
 import csv
-import io
-import itertools
 import os
-import types
 import unittest
 import warnings
-from contextlib import redirect_stderr
-from unittest import mock
 
 from graphs import NAMES
-from interrupting import PATIENCE, SOON, Scene, at_line, made_at_once
-from support import ENGINE, OF_PIPES, Case, optional
+from interrupting import at_line
+from support import IS_SERVED, Case, optional
 
 import misteluk
 from misteluk import Edge, Neighbor, Store
-from misteluk.engine import calls
-from misteluk.feeds import progress
-from misteluk.values import records
 
 pandas = optional("pandas")
 
 
 class Calls(Case):
-    @unittest.skipUnless(ENGINE == "program", OF_PIPES)
-    def test_records_by_degree(self):
-        """As many records as a vertex has edges, whatever else there is, once the kinds are known; none once all edges are."""
-        store = self.store(*(f"insert k s{it} t{it % 10} 1 1" for it in range(300)))
-        session = store.open()
-        session.out_of("s0")
-        for call, count in ((lambda: session.into("t3"), 30), (lambda: session.out_of("s7"), 1),
-                            (lambda: session.neighbors("t3"), 30), (lambda: session.path("s3", "t3"), 1 + 30),
-                            (lambda: session.within("s3", 2, directed=False), 1 + 1 + 30), (session.edges, 300 + 1),
-                            (session.edges, 0), (lambda: session.into("t3"), 0)):
-            before = store.records_sent
-            call()
-            self.assertEqual(store.records_sent - before, count)
-
-    @unittest.skipUnless(ENGINE == "program", OF_PIPES)
-    def test_exports_where_records_are_few(self):
-        """As where 500,000 rows leave 499,000 records: they go on as long as the first one found room."""
-        store = self.store(*(f"insert k s{it} t 1 1" for it in range(300)))
-        session = store.open()
-        store.engine.most_records = store.records_sent + 320
-        with warnings.catch_warnings():
-            warnings.simplefilter("ignore")
-            for _ in range(5):
-                self.assertEqual((len(list(session.edges())), session.weights_in()["t"], session.save(self.room / "s").edges),
-                                 (300, 300, 300))
-                self.assertLess(store.records_left, 20)
-
-    @unittest.skipUnless(ENGINE == "program", OF_PIPES)
-    def test_it_is_told_while_one_export_can_be_made(self):
-        """Once: when the records that are left are enough for one session's reading of all edges, and not for two."""
-        store = self.store(*(f"insert k s{it} t 1 1" for it in range(300)))
-        store.engine.most_records = store.records_sent + 1_150
-        with warnings.catch_warnings():
-            warnings.simplefilter("error")
-            for _ in range(2):
-                with store.open() as session:
-                    self.assertEqual(len(list(session.edges())), 300)
-        with self.assertWarnsRegex(misteluk.NearLimit, "takes 302: that can be once, and not twice"), store.open() as session:
-            self.assertEqual(len(list(session.edges())), 300)
-        with warnings.catch_warnings(), store.open() as session:
-            warnings.simplefilter("error")
-            self.refused(misteluk.RecordLimit, "begin a new store", session.edges)
-
-    @unittest.skipUnless(ENGINE == "program", OF_PIPES)
-    def test_a_load_tells_beforehand_that_records_will_be_few(self):
-        rows = [(f"s{it}", "t") for it in range(300)]
-        for most, told in ((1_050, "leaves 746 of the run's 1050 records.*all its 300 edges.*that can't be twice"),
-                           (650, "leaves 346 of .*: that can't be done. A store in this process")):
-            with mock.patch.object(records, "MOST_RECORDS", most), self.assertWarnsRegex(misteluk.NearLimit, told):
-                self.store().load(rows, by="set")
-        with mock.patch.object(records, "MOST_RECORDS", 1_150), warnings.catch_warnings():
-            warnings.simplefilter("error")
-            self.store().load(rows, by="set")
-
     def test_a_path_whose_step_has_many_edges_that_are_gone(self):
         """17 vertices stand a level below the last one, and the edges of the first 16 to it have expired; an earlier session
-        holds them, so the client knows of them still. The same in a window that has the last edge alone."""
+        holds them. The same in a window that has the last edge alone."""
         ways = [(f"insert k a s{it} 1 9", f"insert k s{it} t 1 {9 if it == 16 else 1}") for it in range(17)]
         store = self.store(*(it for way in ways for it in way))
         held = store.open()
@@ -161,28 +98,6 @@ class Calls(Case):
                      lambda: "a" in session):
             self.refused(misteluk.SessionClosed, "version 1 is closed", call)
 
-    @unittest.skipUnless(ENGINE == "program", OF_PIPES)
-    def test_progress(self):
-        """At a terminal it is told of many edges while they are asked for. The clock goes on by a second each time that it is
-        looked at."""
-        clock = mock.patch.object(progress, "time", types.SimpleNamespace(monotonic=itertools.count().__next__))
-        self.addCleanup(clock.stop)
-        clock.start()
-
-        class Terminal(io.StringIO):
-            def isatty(self):
-                return True
-        store = self.store()
-        store.load([(f"s{it % 300}", f"t{it}") for it in range(25_000)], by="set", progress=False)
-        session = store.open()
-        with redirect_stderr(Terminal()) as told:
-            session.weights_in()
-        self.assertIn("asking for edges", told.getvalue())
-        with redirect_stderr(Terminal()) as told:
-            self.assertEqual(len(list(session.edges())), 25_000)
-            self.store("insert k a b 1 1").open().weights_in()
-        self.assertEqual(told.getvalue(), "")  # (they were told, and few take no time)
-
     def test_a_name_is_a_text(self):
         """A frame's numbers are loaded as texts, so they are asked for as texts."""
         store = self.store()
@@ -196,18 +111,6 @@ class Calls(Case):
                      lambda: session.into("2", kind=1), lambda: list(session.edges(kind=1)),
                      lambda: misteluk.view(session, 1)):
             self.refused(TypeError, "a kind and a name are texts, and not 1", call)
-
-    @unittest.skipUnless(ENGINE == "program", OF_PIPES)
-    def test_more_than_a_run_takes_is_told_before_anything_is_sent(self):
-        store = self.store(*(f"insert k a t{it} 1 1" for it in range(9)))
-        session = store.open()
-        session.out_of("t1")
-        sent = store.records_sent
-        store.engine.most_records = sent + 8
-        for call in (session.edges, session.weights_in, session.edges_frame if pandas else session.edges,
-                     lambda: session.out_of("a"), lambda: session.to_csv(self.room / "x")):
-            self.refused(misteluk.RecordLimit, f"a run takes {sent + 8} records; this one had {sent}, and ", call)
-        self.assertEqual((store.records_sent, os.listdir(self.room)), (sent, []))
 
     def test_units(self):
         store = Store(weight_scale=100, times="iso")
@@ -267,10 +170,8 @@ class Calls(Case):
         right, edges, wrong, at = call(), list(session.edges()), [], 1
         while len(wrong) < 3:
             try:
-                if ENGINE == "library":  # (it would have the answers already)
+                if not IS_SERVED:  # (it would have the answers already)
                     session.held.kept.degrees = None
-                if ENGINE == "program":
-                    session.held._all = None
                 if not at_line(at, call):
                     break
                 if (call(), list(session.edges())) != (right, edges):
@@ -295,14 +196,6 @@ class Calls(Case):
                 self.assertGreater(count, 5)
         self.assertEqual(session.path("a", "c", "k"), ["a", "b", "c"])
         self.assertEqual(store.stat().edges, 3)
-
-    @unittest.skipUnless(ENGINE == "program", OF_PIPES)
-    def test_each_line_interrupted_finds_a_fault(self):
-        with mock.patch.dict(PATIENCE, SOON):
-            scene = Scene()
-        self.addCleanup(scene.end)
-        with mock.patch.object(calls.Calls, "make", made_at_once):
-            self.assertGreater(len(self.wrong_lines(scene.session, lambda: scene.session.neighbors("b"), 17)[0]), 2)
 
 
 if __name__ == "__main__":

@@ -110,7 +110,7 @@ def serve() -> None:
     from misteluk.command.serve import TURN
     from misteluk.serve.server import Server
     sys.setswitchinterval(TURN)
-    with misteluk.Store(seats=16, endless=True, engine="library") as store, Server(store, "127.0.0.1:0") as server:
+    with misteluk.Store(seats=16, endless=True) as store, Server(store, "127.0.0.1:0") as server:
         gc.collect()
         gc.freeze()
         watch = Watch()

@@ -1,15 +1,14 @@
-"""`misteluk doctor`: which engine a store gets here, and what is to be known of it."""
+"""`misteluk doctor`: which library stores have here, and what is to be known of it."""
 from __future__ import annotations
 
 import os
 import pathlib
 import platform
-from typing import List, Optional, Tuple
+from typing import Callable, List, Tuple
 
 from ..engine import interface
-from ..engine.finding import OF_LIBRARY, VARIABLE as OF_PROGRAM, Path, find_library, find_program
+from ..engine.finding import OF_LIBRARY, VARIABLE as OF_PROGRAM, find_library, find_program
 from ..engine.calling import opened
-from ..engine.making import LIBRARY, PROGRAM, VARIABLE, choose
 from ..errors import StoreError
 from ..store import Store
 from ..values import limits, records
@@ -31,42 +30,39 @@ def made(path: str) -> str:
     return "compiled, or of elsewhere: not known to be proved"
 
 
-def limits_of(name: str) -> str:
-    """How much a store takes at most, by its engine."""
-    if name == PROGRAM:
-        return (f"{records.MOST_NAMES:,} vertices, {records.MOST_KINDS} kinds, {records.MOST_BLOCKS:,} blocks; a run takes "
-                f"{records.MOST_RECORDS:,} records and {records.MOST_BATCHES:,} batches")
+def most() -> str:
+    """How much a store takes at most."""
     told = ", ".join(f"{Limits(kinds=it).shape(0, 0).vertices:,} with {it}" for it in (2, 8, limits.MOST_KINDS))
     return (f"{limits.MOST_PRODUCT:,} vertices with 1 kind, {told}, unless Store(limits=..) says others; {limits.MOST_BLOCKS:,} "
-            "blocks")
+            f"blocks; batches of {records.MOST_OPERATIONS:,}")
 
 
-def find(what: str, program: Optional[Path]) -> Tuple[str, bool]:
-    """Where an engine is, and by what it was made, or what is missing and the next step; and whether it can be had."""
+def find(of: Callable[[], str]) -> Tuple[str, bool]:
+    """Where the library or program is, and by what it was made, or what is missing and the next step; and whether it is there."""
     try:
-        path = find_library() if what == LIBRARY else find_program(program)
-        if what == LIBRARY:
-            opened(path)
+        path = of()
     except StoreError as fault:
         return str(fault), False
-    return f"{path}; {made(path)}" + (f"; interface {interface.INTERFACE}" if what == LIBRARY else ""), True
+    return f"{path}; {made(path)}", True
 
 
-def look(engine: Optional[str], program: Optional[Path]) -> Tuple[List[str], bool]:
+def loaded() -> str:
+    """The path of the library, which is loaded."""
+    path = find_library()
+    opened(path)
+    return path
+
+
+def look() -> Tuple[List[str], bool]:
     """What is told, and whether a store can be made."""
     told = [f"misteluk {VERSION} on Python {platform.python_version()}, {platform.system()} {platform.machine()}"]
-    told += [f"{it} is {os.environ[it]}" for it in (VARIABLE, OF_LIBRARY, OF_PROGRAM) if it in os.environ]
+    told += [f"{it} is {os.environ[it]}" for it in (OF_LIBRARY, OF_PROGRAM) if it in os.environ]
+    library, is_there = find(loaded)
+    told += [f"library: {library}" + f"; interface {interface.INTERFACE}" * is_there, f"program stinger: {find(find_program)[0]}"]
+    if not is_there:
+        return [*told, "no store can be made without the library: its line above says what to do"], False
     try:
-        name = choose(engine, program)
-    except ValueError as fault:
-        return [*told, str(fault)], False
-    told.append(f"engine: {name}")
-    found = {it: find(it, program) for it in (LIBRARY, PROGRAM)}
-    told += [f"{it}: {text}" for it, (text, _) in found.items()]
-    if not found[name][1]:
-        return [*told, f"no store can be made without the {name}: its line above says what to do"], False
-    try:
-        with Store(engine=name, program=program) as store:
+        with Store() as store:
             store.insert("kind", "a", "b")
             store.commit()
             with store.open() as session:
@@ -74,5 +70,4 @@ def look(engine: Optional[str], program: Optional[Path]) -> Tuple[List[str], boo
             told.append(f"a store of {store.blocks} blocks and {store.seats} seats answers{'' if is_well else ' WRONGLY'}")
     except StoreError as fault:
         return [*told, f"no store can be made: {fault}"], False
-    told.append(f"limits: {limits_of(name)}; batches of {records.MOST_OPERATIONS:,}")
-    return told, is_well
+    return [*told, f"limits: {most()}"], is_well

@@ -15,10 +15,9 @@ from . import around, doctor, follow as telling, serve
 from .. import files, pictures
 
 from ..values import records
-from ..values.limits import OF_PROGRAM
+from ..values.limits import OF_SCRIPT
 from ..errors import StoreError
 from ..feeds.feed import STANDARD_INPUT
-from ..engine.making import LIBRARY, PROGRAM, choose
 from ..lint import lint
 from ..feeds.limits import check
 from ..feeds.loading import load, load_in_steps
@@ -32,8 +31,8 @@ from ..session import Session
 from ..store import Store
 
 
-# What a run of a program takes.
-OF_RUN: Dict[str, Any] = {"limits": OF_PROGRAM, "most_blocks": records.MOST_BLOCKS}
+# What a run of a script takes.
+OF_RUN: Dict[str, Any] = {"limits": OF_SCRIPT, "most_blocks": records.MOST_BLOCKS}
 # The status that a shell tells of a command whose output lost its reader.
 ITS_READER_WENT = 128 + 13
 
@@ -49,21 +48,8 @@ def form_of_feed(words: argparse.Namespace) -> Dict[str, Any]:
 def read(words: argparse.Namespace) -> Survey:
     rejects = words.rejects if "rejects" in words else None
     found = survey(words.file, batch=words.batch, rounding=words.rounding, rejects=rejects, **form_of_feed(words))
-    is_program = choose(words.engine, words.program) == PROGRAM
-    check(found, skip_bad=words.skip_bad, **(OF_RUN if is_program else {}))
+    check(found, skip_bad=words.skip_bad, **(OF_RUN if "script" in words and words.script else {}))
     return found
-
-
-def engine_of(words: argparse.Namespace) -> Dict[str, Any]:
-    """What is said of the engine."""
-    return {"engine": words.engine, "program": words.program, "timeout": words.timeout}
-
-
-def make_store(words: argparse.Namespace, found: Survey, holds: bool = False) -> Store[Any, Any]:
-    """A store with the blocks that are said, or else enough: a program has as many as there can be where versions are held."""
-    if choose(words.engine, words.program) == LIBRARY:
-        return Store(blocks=words.blocks, **engine_of(words))
-    return Store(blocks=words.blocks or (records.MOST_BLOCKS if holds else found.fitting()), **engine_of(words))
 
 
 def window(words: argparse.Namespace) -> Dict[str, Any]:
@@ -82,7 +68,7 @@ def run_load(words: argparse.Namespace) -> int:
     tell(words, found)
     if words.script or words.dry_run:
         return 0
-    with make_store(words, found) as store:
+    with Store(blocks=words.blocks) as store:
         print(load(store, found, by=words.by, skip_bad=words.skip_bad))
         do_then(words, store)
     return 0
@@ -91,7 +77,7 @@ def run_load(words: argparse.Namespace) -> int:
 def run_restore(words: argparse.Namespace) -> int:
     must_be_place(words.save)
     must_be_place(words.edges)
-    with Store.restore(words.file, blocks=words.blocks, **engine_of(words)) as store:
+    with Store.restore(words.file, blocks=words.blocks) as store:
         stat = store.stat()
         print(f"{words.file}: {size_of(stat.names, stat.edges)} restored in {stat.used} of {store.blocks} blocks", flush=True)
         do_then(words, store)
@@ -143,9 +129,7 @@ def answer(words: argparse.Namespace, session: Session[Any, Any]) -> Iterator[st
 
 
 def run_follow(words: argparse.Namespace) -> int:
-    is_endless = choose(words.engine, words.program) == LIBRARY
-    blocks = words.blocks or (None if is_endless else records.MOST_BLOCKS)
-    with Store(blocks=blocks, endless=is_endless, rounding=words.rounding, **engine_of(words)) as store:
+    with Store(blocks=words.blocks, endless=True, rounding=words.rounding) as store:
         return telling.follow(words, store, form_of_feed(words))
 
 
@@ -154,7 +138,7 @@ def run_serve(words: argparse.Namespace) -> int:
 
 
 def run_doctor(words: argparse.Namespace) -> int:
-    told, is_well = doctor.look(words.engine, words.program)
+    told, is_well = doctor.look()
     print(*told, sep="\n")
     return 0 if is_well else 1
 
@@ -172,7 +156,7 @@ def run_picture(words: argparse.Namespace) -> int:
         return run_around(words)
     found = read(words)
     draw = draw_versions if words.what in ("edge", "compare") else draw_last
-    with make_store(words, found, words.what == "compare") as store:
+    with Store(blocks=words.blocks) as store:
         figure = draw(words, store, found)
     pictures.save(figure, words.output)
     print(f"{words.output}: {words.what} of {found}")
@@ -184,7 +168,7 @@ def run_around(words: argparse.Namespace) -> int:
     if words.by is None:
         return run_around_saved(words)
     found = read(words)
-    with make_store(words, found, holds=True) as store:
+    with Store(blocks=words.blocks) as store:
         page = around.draw(words, store, found, window(words))
     page.save(words.output)
     print(f"{words.output}: {page}")
@@ -195,7 +179,7 @@ def run_around_saved(words: argparse.Namespace) -> int:
     """The page of the version that a file has which --save wrote."""
     if words.at is not None or words.at_line is not None:
         raise ValueError("a saved file has one version: --at and --at-line are for the rows of a feed")
-    with Store.restore(words.file, blocks=words.blocks, **engine_of(words)) as store:
+    with Store.restore(words.file, blocks=words.blocks) as store:
         page = view(store.open(), words.around, words.hops, most=words.most, title=words.title, labels=("the saved version", ""),
                     **window(words))
     page.save(words.output)

@@ -9,7 +9,6 @@ from . import around, serve
 from ..values import records
 from ..values.answers import BY_COLUMN
 from ..version import VERSION
-from ..engine.making import ENGINES
 from ..feeds.feed import Column, Columns
 from ..feeds.notations import DECIMALS, TIMES
 from .questions import Question, question
@@ -77,7 +76,6 @@ def add_feed_options(parser: argparse.ArgumentParser, blocks: str = BLOCKS, save
     store = parser.add_argument_group("the store")
     store.add_argument("--blocks", type=int, help=f"else {blocks}")
     store.add_argument("--batch", type=int, default=batch, metavar="N", help="rows a batch (4,096 at most)")
-    add_program(store)
 
 
 class RejectsFile(argparse.Action):
@@ -123,28 +121,11 @@ def add_what_then(parser: argparse.ArgumentParser, ask: Any) -> None:
     add_window(parser)
 
 
-def add_engine(store: Any) -> None:
-    store.add_argument("--engine", choices=ENGINES, help="the store in this process, or a program in one of its own; else "
-                       "what MISTELUK_ENGINE says, or the library (see `misteluk doctor`)")
-
-
-def add_program_alone(store: Any) -> None:
-    store.add_argument("--program", help="the program to run in place of the library; which one --engine program runs, "
-                       "MISTELUK_PROGRAM says, or else the repository or the path")
-
-
-def add_program(store: Any) -> None:
-    add_engine(store)
-    add_program_alone(store)
-    store.add_argument("--timeout", type=float, default=60.0, metavar="SECONDS", help="how long the program may be silent")
-
-
 def add_restore(restore: argparse.ArgumentParser) -> None:
     restore.add_argument("file", help="a file that --save or a session's save wrote, packed or not")
     add_what_then(restore, restore.add_argument_group("what then"))
     store = restore.add_argument_group("the store")
     store.add_argument("--blocks", type=int, help="else as many as the saved store had, or more where the graph needs them")
-    add_program(store)
 
 
 def add_pace(live: Any) -> None:
@@ -182,7 +163,7 @@ def add_lint(check: argparse.ArgumentParser) -> None:
     check.add_argument("--seats", type=int, default=records.USUAL_SEATS, metavar="N",
                        help=f"how many sessions the run may have open at once ({records.USUAL_SEATS})")
     check.add_argument("--blocks", type=int, default=records.USUAL_BLOCKS, help=f"the run's blocks ({records.USUAL_BLOCKS:,})")
-    add_program_alone(check)
+    check.add_argument("--program", help="the program to run; else MISTELUK_PROGRAM, the repository's or the path's")
 
 
 def add_picture(picture: argparse.ArgumentParser) -> None:
@@ -217,9 +198,7 @@ def make_parser() -> argparse.ArgumentParser:
     add_follow(commands.add_parser("follow", help="load a file that grows, or standard input, as it comes; Ctrl-C ends it"))
     add_serve(commands.add_parser("serve", help="serve a live graph over HTTP: one feed, and many who ask; Ctrl-C ends it"))
     add_lint(commands.add_parser("lint", help="tell each refused record of a script, with its line, field and reason"))
-    look = commands.add_parser("doctor", help="tell which engine runs, where it is, whether it was proved, and its limits")
-    add_engine(look)
-    add_program_alone(look)
+    commands.add_parser("doctor", help="tell which library is loaded, where it is, whether it was proved, and its limits")
     add_picture(commands.add_parser("picture", help="draw a picture of a file's graph (needs matplotlib, but for around)"))
     return parser
 

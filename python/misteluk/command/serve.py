@@ -8,7 +8,6 @@ import signal
 import sys
 from typing import Any, Dict, Optional, Tuple
 
-from ..engine.making import LIBRARY
 from ..feeds.feed import STANDARD_INPUT
 from ..serve import log
 from ..serve.door import raise_descriptors
@@ -67,8 +66,6 @@ def serve(words: argparse.Namespace, how: Dict[str, Any]) -> int:
     limits = ServerLimits(words.idle, words.clients, words.body, words.longest, words.questions, words.versions)
     if words.file is not None and words.by is None:
         raise ValueError("a feed wants --set or --add")
-    if words.program is not None or words.engine not in (None, LIBRARY):
-        raise ValueError("a server has its store in its own process, by the library, and runs no program")
     if words.save is not None and words.file not in (None, STANDARD_INPUT):
         raise ValueError("a file that is followed is read again at the start: --save is for rows that a pipe or clients bring")
     with log.written(words.log):
@@ -118,7 +115,7 @@ def ended(server: Server, keeper: Optional[Keeper]) -> int:
 
 def store_of(words: argparse.Namespace, keeper: Optional[Keeper]) -> Tuple[Store[Any, Any], str]:
     """The store that is served, and what it begins with."""
-    options = {"blocks": words.blocks, "seats": records.MOST_SEATS, "endless": True, "engine": LIBRARY,
+    options = {"blocks": words.blocks, "seats": records.MOST_SEATS, "endless": True,
                "weight_scale": words.weight_scale, "times": "iso" if words.dates else words.times, "rounding": words.rounding}
     store = None if keeper is None else keeper.restored(**options)
     if store is None or keeper is None:

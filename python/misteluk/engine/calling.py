@@ -14,8 +14,9 @@ from .finding import next_step
 from .guard import Notes, Owned
 from .interface import Code, Library
 from .operations import INSERT, REMOVE, Numbered, Operations
-from .protocol import A_FEW, Denied, Receipt
+from .protocol import A_FEW, Denied
 from ..errors import LibraryNotFound, NoMemory, StoreError
+from ..values.answers import Commit
 from ..values.fields import numpy_for
 
 # The words of codes that the client's users know.
@@ -118,7 +119,7 @@ class LibraryFlight:
         self.batch, self.collect, self.owned = batch, collect, owned
         self.cut: List[None] = []
         self.counts = interface.Counts()
-        self.receipt: Optional[Receipt] = None
+        self.receipt: Optional[Commit] = None
 
 
 def fill(library: Library, raw: interface.Batch, batch: Operations) -> None:

@@ -24,10 +24,11 @@ from .guard import Guard, Notes, Owned, alone
 from .held import LibraryVersion, Opening
 from .interface import Code
 from .operations import REMOVE, Operations
-from .protocol import Denied, Receipt
+from .protocol import LIBRARY, Denied
 from ..errors import NoSeat, SessionClosed, StoreError
 from ..values.answers import Collected, Commit, Rebased, Renewed, Stat
-from ..values.limits import MOST_BATCHES, MOST_BLOCKS, MOST_KINDS, MOST_WEIGHT, Limits
+from ..values import records
+from ..values.limits import MOST_BATCHES, MOST_BLOCKS, MOST_KINDS, MOST_WEIGHT, Limits, within
 
 # How many blocks a desk has at first, and how many times as many one that has room for more.
 FIRST_BLOCKS, MORE_BLOCKS = 65_536, 4
@@ -43,14 +44,16 @@ class LibraryEngine:
     desk with the same edges takes its place once they are needed. `endless`: before that it lets names and kinds go that have no
     edge. A desk without a limit on batches keeps none of those that it has applied."""
 
-    name = "library"
-    records_sent, records_left, most_blocks = 0, None, MOST_BLOCKS
+    name, most_blocks = LIBRARY, MOST_BLOCKS
 
     def __init__(self, blocks: Optional[int], seats: int, endless: bool, limits: Limits = Limits(),
                  library: "Optional[str | os.PathLike[str]]" = None) -> None:
+        if blocks is not None:
+            within("blocks", blocks, records.LEAST_BLOCKS, MOST_BLOCKS)
+        within("seats", seats, 1, records.MOST_SEATS)
         self.path = find_library(library)
         self.library, self.handles = opened(self.path)
-        self.grows, self.limits, self.seats, self._endless = blocks is None, limits, seats, endless
+        self.grows, self.limits, self.seats, self._endless = blocks is None, limits.checked(), seats, endless
         self.is_closed = False
         self.guard = self._guard = Guard()
         self._held: "Dict[int, weakref.ref[LibraryVersion]]" = {}
@@ -113,7 +116,7 @@ class LibraryEngine:
             opening = opening._replace(before=opening.number, kept=0)
         elif flight is not None and number > opening.number:
             version, inserted, updated, removed, absent, overflowed, expired = _COUNTS.unpack(flight.counts)
-            flight.receipt = Receipt(Commit(version + opening.before, inserted, updated, removed, absent, overflowed, 1, expired))
+            flight.receipt = Commit(version + opening.before, inserted, updated, removed, absent, overflowed, 1, expired)
             self._empty = [flight.owned]
             opening = opening._replace(number=number, kept=opening.kept + flight.batch.size)
         return opening._replace(flying=None, begins_anew=False)
@@ -141,12 +144,12 @@ class LibraryEngine:
         return owned
 
     @alone
-    def landed(self, flight: LibraryFlight) -> Optional[Receipt]:
+    def landed(self, flight: LibraryFlight) -> Optional[Commit]:
         self._settle()
         return None if flight.receipt is None else self._receipt(flight)
 
     @alone
-    def fly(self, flight: LibraryFlight) -> Receipt:
+    def fly(self, flight: LibraryFlight) -> Commit:
         code = self._applied(self._settle(), flight)
         if code:
             self._help(self._settle(), code, flight)
@@ -157,7 +160,7 @@ class LibraryEngine:
         self._opening = opening._replace(flying=flight)
         return self.library.desk_apply(opening.desk.raw, flight.owned.raw, flight.counts)
 
-    def _receipt(self, flight: LibraryFlight) -> Receipt:
+    def _receipt(self, flight: LibraryFlight) -> Commit:
         opening = self._settle()
         assert flight.receipt is not None  # (it is in)
         if flight.collect:
@@ -335,7 +338,7 @@ class LibraryEngine:
     def renew(self) -> Renewed:
         begun, opening = time.monotonic(), self._settle()
         stat = self._stat(self._begin_anew(opening))
-        return Renewed(stat.version, stat.names, stat.edges, 0, time.monotonic() - begun)
+        return Renewed(stat.version, stat.names, stat.edges, time.monotonic() - begun)
 
     # The end.
 
@@ -345,9 +348,6 @@ class LibraryEngine:
         self._close_versions(self._versions)
         self._opening = self._opening._replace(desk=Owned(interface.Desk(), self.handles.desks), flying=None, rebased=None)
         self.handles.give_back(self.library)
-
-    def kill(self) -> None:
-        self.close()
 
 
 def _wanted(flight: LibraryFlight, names: Iterable[str], kinds: Iterable[str]) -> Tuple[int, int]:

@@ -1,4 +1,5 @@
-"""What a store and its sessions need of an engine, whichever it is: the running store, and the versions that are held of it.
+"""What a store and its sessions need of an engine, in this process or a server's: the running store, and the versions that are
+held of it.
 
 All of it is in the engine's terms: names and kinds are 1 to 64 signs from `!` to `~`, weights and times are whole numbers, and a
 vertex or a kind has a number in a version. Numbers are given in the order in which names came; they stay as they are from version
@@ -37,6 +38,8 @@ WHOLE = Scope()
 # How many bits the lower half of a weight has; up to which size a float has each whole number; and from how many edges on numpy
 # is quicker than loops, once it is loaded.
 HALF, EXACT, A_FEW = 20, 1 << 53, 500
+# What the engine in this process is called.
+LIBRARY = "library"
 
 
 class Arrays(NamedTuple):
@@ -134,20 +137,12 @@ def _begins(numpy: Any, numbers: Any, count: int) -> "array[int]":
     return array("I", begins.tobytes())
 
 
-class Receipt(NamedTuple):
-    """What a batch did; and the operations that were refused of it, by place and word, though they had been taken for right."""
-
-    commit: Commit
-    refused: Sequence[Tuple[int, str]] = ()
-
-
 class Denied(Exception):
-    """What was asked can't be: the word for that, the record's number where there is one, of a batch that needs more blocks than
-    are free what the blocks were, and what helps, where that isn't the word's advice."""
+    """What was asked can't be: the word for that, of a batch that needs more blocks than are free what the blocks were, and what
+    helps, where that isn't the word's advice."""
 
-    def __init__(self, word: str, record: Optional[int] = None, stat: Optional[Stat] = None,
-                 advice: Optional[str] = None) -> None:
-        self.word, self.record, self.stat, self.advice = word, record, stat, advice
+    def __init__(self, word: str, stat: Optional[Stat] = None, advice: Optional[str] = None) -> None:
+        self.word, self.stat, self.advice = word, stat, advice
         super().__init__(word)
 
 
@@ -235,12 +230,6 @@ class Engine(Protocol):
         """Whether this process is a fork of the one that has it."""
 
     @property
-    def records_sent(self) -> int: ...
-
-    @property
-    def records_left(self) -> Optional[int]: ...
-
-    @property
     def operations_kept(self) -> Optional[int]:
         """How many operations it keeps that came since it began, or began anew; `None` where that isn't known here."""
 
@@ -250,10 +239,10 @@ class Engine(Protocol):
     def flight(self, batch: Operations, collect: bool) -> Any:
         """A batch that can be applied, with a collection behind it or not. Nothing is done yet."""
 
-    def fly(self, flight: Any) -> Receipt:
+    def fly(self, flight: Any) -> Commit:
         """Applies a batch, once, however often this is called, and tells what it did. Raises `Denied` where it is refused."""
 
-    def landed(self, flight: Any) -> Optional[Receipt]:
+    def landed(self, flight: Any) -> Optional[Commit]:
         """What a batch did whose call was broken off; `None` where it wasn't begun, and then it isn't."""
 
     def stat(self) -> Stat: ...
@@ -270,7 +259,4 @@ class Engine(Protocol):
         """Begins anew with the last version's edges; versions are counted on, and those that are held stay."""
 
     def close(self) -> None:
-        """Ends it. Raises `ProgramEnded` where it tells of a fault."""
-
-    def kill(self) -> None:
-        """Ends it, whatever it does."""
+        """Ends it."""

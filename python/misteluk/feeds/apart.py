@@ -15,10 +15,10 @@ from typing import Any, Iterator, NamedTuple, Optional, Sequence, Type
 from . import parcels
 from .following import Following
 from .parcels import Parcel
+from .pipes import how_ended, widen
 from .reader import Wanted
 from .rejects import Lines, Rejected
 from .steps import FeedPlace
-from ..engine.conversation import how_ended, widen
 from ..engine.operations import Encoded, Numbered, Operations
 from ..errors import StoreError
 from ..values.answers import Commit

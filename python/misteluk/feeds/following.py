@@ -10,13 +10,13 @@ from types import TracebackType
 from typing import TYPE_CHECKING, Any, Callable, Deque, Iterator, List, Optional, Protocol, Tuple, Type, Union
 
 from ..values import records
-from ..errors import BadRows, NoAnswer, OperationsRefused, PoolEmpty, ProgramEnded, Refused, StoreError, Uncommitted, refusal
+from ..errors import BadRows, NoAnswer, PoolEmpty, Refused, StoreError, Uncommitted, refusal
 from .advice import Reading, advise
+from .calls import Calls
 from .feed import Block, Feed, Path, part_of, turned
 from .growing import DelimitedRows, Growing, Incoming, Opened, Rows, SnapRows
 from .surveys import Count, must_be_way
 from .opening import ReadAs, form_of, reads
-from ..engine.calls import Calls
 from ..engine.guard import noting
 from ..engine.operations import EXPIRY
 from .progress import Progress
@@ -265,9 +265,6 @@ class Following(Iterator[Followed]):
         try:
             receipt = self._ledger.commit(True, records.MOST_OPERATIONS)
             self._ledger.taken.append(self._ledger.telling)
-        except OperationsRefused:
-            self._take_in()
-            raise
         except StoreError as fault:
             raise self._with_rows(fault, self.store.pending < pending) from fault
         self._take_in()
@@ -287,13 +284,11 @@ class Following(Iterator[Followed]):
         if isinstance(fault, PoolEmpty):
             free = "" if fault.free is None else f", and {fault.free} are free"
             text = f"{stands}. The batch needs {fault.needed} free blocks{free}"
-            return PoolEmpty(needed=fault.needed, free=fault.free, record=fault.record, text=text, advice=fault.advice)
+            return PoolEmpty(needed=fault.needed, free=fault.free, text=text, advice=fault.advice)
         if isinstance(fault, Refused):
-            return refusal(fault.word, stands, record=fault.record, advice=fault.advice)
+            return refusal(fault.word, stands, advice=fault.advice)
         if isinstance(fault, NoAnswer):
             return NoAnswer(f"{fault}; {rows} were sent, and the {self._in} rows before them are in")
-        if isinstance(fault, ProgramEnded):
-            return type(fault)(f"{fault}; {rows} were not answered, and the graph is gone with the program", fault.status)
         return type(fault)(f"{fault}; {stands}")
 
     def __enter__(self) -> "Following":

@@ -10,10 +10,10 @@ import stat
 from typing import Iterator, List, Optional, Protocol, Sequence, Union
 
 from .delimited import Picked, even_columns, must_be_sign, whole_rows
-from ..engine.conversation import has_more
 from ..errors import FeedFault
 from .feed import STANDARD_INPUT, Block, Columns, Feed, Path, Table, codec_of, feed_name, snap_fields, snap_rows, turned
 from .notations import Notation
+from .pipes import has_more
 
 # How many bytes are read at once, how many characters a line may have, and by how many bytes at its begin and before the place
 # a file is known.

@@ -1,15 +1,11 @@
 """What a feed can't be loaded for, told before anything is sent, and what to do about it."""
 from __future__ import annotations
 
-import warnings
 from typing import TYPE_CHECKING, Any
 
 from ..values import records
-from ..errors import BadRows, NearLimit, OverLimit, PoolEmpty
+from ..errors import BadRows, OverLimit, PoolEmpty
 from ..values.limits import MOST_BLOCKS, Limits
-
-# How many records an export takes beside one for each edge: its table, and its kinds.
-FOR_AN_EXPORT = 100
 
 if TYPE_CHECKING:
     from .surveys import Survey
@@ -38,33 +34,15 @@ def check(found: "Survey", *, skip_bad: bool = False, limits: Limits = Limits(),
         raise OverLimit(f"{found.feed} has {'; '.join(over)}. {advice}Nothing is loaded", found.counts())
 
 
-def check_room(store: "Store[Any, Any]", found: "Survey", used: int, count: int) -> None:
+def check_room(store: "Store[Any, Any]", found: "Survey", used: int) -> None:
     """Raises where the store's blocks can't be enough: the edges before a batch take at least those that they need alone, or
-    those in use now. And where a program's records can't."""
-    left = store.records_left
-    if left is not None and (count > left or len(found.parts) > records.MOST_BATCHES):
-        raise OverLimit(f"{found.feed} has {count} records with its commits and collections, in {len(found.parts)} batches, and "
-                        f"this run takes {left} records more of {records.MOST_RECORDS}, and {records.MOST_BATCHES} batches. "
-                        "Nothing was sent", found.counts())
+    those in use now."""
     store.engine.fit(found.names, len(found.kinds), used + found.room)
     needed = 0 if found.surely_fits(store.blocks, used) else found.needed_beside(used)
     if needed > store.blocks:
         text = (f"{found.feed} needs at least {needed} blocks in batches of {found.largest}, and the "
                 f"store was made with {store.blocks}; nothing was sent")
         raise PoolEmpty(needed=needed, free=store.blocks - used, text=text, advice=_room_advice(store, found, used))
-    if left is not None:
-        _warn_of_records(found, left - count)
-
-
-def _warn_of_records(found: "Survey", left: int) -> None:
-    """Warns before a load that leaves a program too few records to ask for all its edges twice, or once. (The sessions of a
-    version keep what they were told, but for those of other versions it is asked again.)"""
-    needed = found.edges + FOR_AN_EXPORT
-    if left < 2 * needed:
-        warnings.warn(NearLimit(f"{found.feed} leaves {left} of the run's {records.MOST_RECORDS} records, and a session that "
-                                f"asks for all its {found.edges} edges, also by a save, takes one for each: that can't be "
-                                f"{'twice' if needed <= left else 'done'}. A store in this process has no such limit "
-                                "(engine='library')"), stacklevel=2)
 
 
 def _room_advice(store: "Store[Any, Any]", found: "Survey", used: int) -> str:

@@ -2,7 +2,7 @@
 from __future__ import annotations
 
 import time
-from typing import TYPE_CHECKING, Any, Dict, Iterator, List, NamedTuple, Optional, Tuple
+from typing import TYPE_CHECKING, Any, Iterator, List, NamedTuple, Optional, Tuple
 
 from .limits import check, check_room
 from .feed import Path
@@ -11,8 +11,8 @@ from .progress import Progress
 from .rejects import Rejected
 from .surveys import Part, Survey, survey
 from ..engine.calling import MOST_AT_ONCE
-from ..engine.making import LIBRARY
 from ..engine.operations import Operations
+from ..engine.protocol import LIBRARY
 from ..errors import NoAnswer, Place, PoolEmpty, Refused, Uncommitted, refusal
 from ..ledger import sum_of
 from ..values import records
@@ -126,7 +126,7 @@ def _steps(store: "Store[Any, Any]", found: Survey, collect: bool, skip_bad: boo
     if store.pending and not store.is_closed:  # (a closed store says that it is, as soon as it is asked for its blocks)
         text = f"{store.pending} operations are pending: commit or discard them before a load"
         raise Uncommitted(text, store.ledger.told_pending)
-    check_room(store, found, store.stat().used, found.records(collect))
+    check_room(store, found, store.stat().used)
     store.ledger.must_agree(found.terms.units)
     if not found.parts:
         store.ledger.take_terms(found.terms)
@@ -157,8 +157,8 @@ def _apply(store: "Store[Any, Any]", found: Survey, part: Part, at: int, collect
         done = sum(len(it.lines) for it in found.parts[:at])
         text = (f"the batch of lines {part.lines[0]} to {part.lines[-1]} was refused, and neither it nor what comes behind it is "
                 f"in; {done} rows before it are")
-        where: Dict[str, Any] = {"record": fault.record, "place": fault.place}
         if isinstance(fault, PoolEmpty):
             text += f". It needs {fault.needed} free blocks, and {fault.free} are free"
-            raise PoolEmpty(needed=fault.needed, free=fault.free, text=text, advice=fault.advice, **where) from fault
-        raise refusal(fault.word, text, **where) from fault
+            raise PoolEmpty(needed=fault.needed, free=fault.free, text=text, advice=fault.advice,
+                            place=fault.place) from fault
+        raise refusal(fault.word, text, place=fault.place) from fault

@@ -8,7 +8,7 @@ from typing import TYPE_CHECKING, Any, Dict, Iterable, List, Mapping, NamedTuple
 from ..values import records
 from ..values.answers import Degree, Edge
 from ..values.edges import Edges, Told
-from ..errors import Incomplete, NoKind, NoVertex
+from ..errors import NoKind, NoVertex
 from ..values.names import must_be_texts
 from ..values.units import Moment
 
@@ -133,7 +133,6 @@ class Looking:
                 self._keep(self.session.edges_out_of(name, *self.window))
                 self._keep(self.session.edges_into(name, *self.window))
             self._looked.update(dict.fromkeys(front))
-            self._must_be_all(front)
             ends = [name for key in self.edges for name in key[1:]]
             front = [name for name in dict.fromkeys(ends) if name not in self.hops]
             self.hops.update(dict.fromkeys(front, hop))
@@ -141,15 +140,6 @@ class Looking:
     def _keep(self, edges: Iterable[Told]) -> None:
         for kind, source, target, edge in edges:
             self.edges[kind, source, target] = edge
-
-    def _must_be_all(self, names: Iterable[str]) -> None:
-        """Raises where a vertex has other edges than those that were found, by the engine's own count."""
-        out, into = (Counter(key[end] for key in self.edges) for end in (1, 2))
-        for name in names:
-            degree = self.degrees[name]
-            if (out[name], into[name]) != (degree.out, degree.into):
-                raise Incomplete(f"{name!r} has {degree.out} edges out and {degree.into} in, as the store says, and the client "
-                                 f"knows of {out[name]} and {into[name]}")
 
     def weights(self) -> Dict[str, Any]:
         """For each vertex the weight of the edges that join it to nearer ones."""

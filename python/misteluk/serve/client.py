@@ -3,7 +3,7 @@ from __future__ import annotations
 
 import re
 from array import array
-from typing import Any, Callable, Dict, List, Mapping, Optional, Sequence, Tuple, Union
+from typing import Any, Dict, List, Mapping, Optional, Sequence, Tuple, Union
 from weakref import WeakValueDictionary
 
 from . import wire
@@ -12,7 +12,7 @@ from .limits import MOST_VALUES
 from .talk import Talk, part
 from ..engine.guard import Guard, alone
 from ..engine.operations import Operations
-from ..engine.protocol import Arrays, Denied, Ends, Marks, Receipt, Scope
+from ..engine.protocol import Arrays, Denied, Ends, Marks, Scope
 from ..errors import Busy, NoAnswer, NoServer, NotAllowed, Refused, SessionClosed, StoreError
 from ..session import Session
 from ..store import Store
@@ -131,7 +131,7 @@ class ServedEngine:
     """The store of a server. The first batch takes the seat of the one that feeds it; it is given back at the end."""
 
     name = "served"
-    records_sent, records_left, operations_kept = 0, None, None
+    operations_kept = None
     limits, most_blocks = Limits(), MOST_BLOCKS
 
     def __init__(self, talk: Talk, keep_alive: bool = False) -> None:
@@ -181,7 +181,7 @@ class ServedEngine:
         return ServedFlight(batch, collect)
 
     @alone
-    def fly(self, flight: ServedFlight) -> Receipt:
+    def fly(self, flight: ServedFlight) -> Commit:
         run = self.talk.run
         try:
             if not self._feeder:
@@ -189,7 +189,7 @@ class ServedEngine:
             if flight.feeder != self._feeder:
                 self._number += 1
                 flight.feeder, flight.number = self._feeder, self._number
-            return Receipt(Commit(**self._of_batch("POST", flight, self._body_of(flight))))
+            return Commit(**self._of_batch("POST", flight, self._body_of(flight)))
         except (NoServer, NoAnswer) as fault:
             if flight.feeder and (isinstance(fault, NoAnswer) or fault.is_sent):
                 raise type(fault)(f"{fault}. {UNKNOWN}: the next commit asks") from fault
@@ -224,7 +224,7 @@ class ServedEngine:
             raise SessionClosed(f"{fault}. What is pending stays so; the next commit takes the seat again") from None
 
     @alone
-    def landed(self, flight: ServedFlight) -> Optional[Receipt]:
+    def landed(self, flight: ServedFlight) -> Optional[Commit]:
         if not flight.feeder or flight.feeder != self._feeder:
             return None
         try:
@@ -236,7 +236,7 @@ class ServedEngine:
             raise SessionClosed(f"{fault} and applies the batch whose answer was lost, unless it is discarded. Whether that is "
                                 "in isn't known: look before you commit it again") from None
         flight.feeder = ""
-        return None if found is None else Receipt(Commit(**found))
+        return None if found is None else Commit(**found)
 
     # Versions.
 
@@ -300,9 +300,6 @@ class ServedEngine:
         self.is_closed = True
         self.talk.close()
 
-    def kill(self) -> None:
-        self.close()
-
 
 class Served(Store[Any, Any]):
     """A store that a server has (`misteluk serve`): sessions of its versions, and a feed for it.
@@ -322,9 +319,7 @@ class Served(Store[Any, Any]):
     def __init__(self, url: str, *, token: Optional[str] = None, timeout: float = 60.0, keep_alive: bool = False) -> None:
         self._is_closed = True
         engine = ServedEngine(Talk(url, token, timeout), keep_alive)
-        begin: Callable[..., None] = super().__init__
-        begin(engine=engine, weight_scale=engine.units.weight_scale, times=engine.units.times, decimals=engine.units.decimals,
-              rounding=engine.units.rounding)
+        self._begin(engine, engine.units, True)
         self.ledger.terms.names = engine.names
 
     def discard(self) -> int:

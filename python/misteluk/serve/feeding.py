@@ -189,7 +189,7 @@ class Feeding:
 
     def _apply(self, operations: Operations, collect: bool) -> Commit:
         engine = self.store.engine
-        receipt = engine.fly(engine.flight(operations, collect)).commit
+        receipt = engine.fly(engine.flight(operations, collect))
         self.rate.add(operations.size)
         self.expired += receipt.expired
         return receipt

@@ -16,6 +16,7 @@ from .keeping import Keeper
 from .limits import LOOPBACK, ServerLimits
 from .metrics import Counts
 from .people import People
+from ..engine.protocol import LIBRARY
 from ..errors import Missing, StoreError
 from ..store import Store
 
@@ -118,8 +119,8 @@ class Server:
         address, self.people = Address.of(listen), people or People()
         if not self.people.are_any and not address.is_of_here:
             raise ValueError(f"{listen} can be reached from other machines: that wants a token (--token-file)")
-        if store.engine.name != "library":
-            raise ValueError("a server has its store in its own process: it takes engine='library'")
+        if store.engine.name != LIBRARY:
+            raise ValueError("a server has its store in its own process, and serves none of another server")
         self.limits, self.store, self._keeper = limits.checked(), store, keeper
         self._socket, self.address = address.bound()
         self.board = Board(store, self.limits)

@@ -14,10 +14,10 @@ from urllib.parse import SplitResult, quote, urlsplit
 from . import answers
 from .limits import RUN
 from .server import UNIX
-from ..engine.conversation import has_more
 from ..engine.protocol import Denied
 from ..errors import (Busy, Misread, NoAnswer, NoMemory, NoSeat, NoServer, NotAllowed, SessionClosed, StoreError, TooLarge,
                       refusal)
+from ..feeds.pipes import has_more
 from ..values.answers import Stat
 
 JSON = "application/json"

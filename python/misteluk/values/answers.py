@@ -72,13 +72,12 @@ class Rebased(NamedTuple):
 
 
 class Renewed(NamedTuple):
-    """When a store began anew with its last edges: the version, its names and edges that went along, the records that took, and
-    for how many seconds the store did nothing else."""
+    """When a store began anew with its last edges: the version, its names and edges that went along, and for how many seconds the
+    store did nothing else."""
 
     version: int
     names: int
     edges: int
-    records: int
     seconds: float
 
     def __str__(self) -> str:

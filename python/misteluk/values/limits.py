@@ -21,7 +21,6 @@ class Limits(NamedTuple):
         Store(limits=Limits(vertices=100_000, kinds=4))
         Store(limits=Limits(vertices=20_000_000, kinds=4, weight=1_000_000))
 
-    A program takes 65,536 vertices, 64 kinds and 65,536 batches, and no others.
     """
 
     vertices: Optional[int] = None
@@ -63,8 +62,8 @@ class Limits(NamedTuple):
     @property
     def advice(self) -> str:
         """How a store may take more."""
-        if self == OF_PROGRAM:
-            return "A store in this process takes more (engine='library')"
+        if self == OF_SCRIPT:
+            return "A store of the client takes more"
         if self.vertices or self.kinds:
             return f"Make the store with more than {self}"
         is_most = self.most_vertices(1) == MOST_VERTICES
@@ -78,8 +77,8 @@ class Limits(NamedTuple):
         return Limits(self.vertices or self.most_vertices(room), room, self.batches or MOST_BATCHES, self.weight)
 
 
-# Those of a program.
-OF_PROGRAM = Limits(65_536, 64, 65_536)
+# Those of what runs a script.
+OF_SCRIPT = Limits(65_536, 64, 65_536)
 
 
 def within(name: str, value: int, least: int, most: int) -> int:

@@ -23,7 +23,6 @@ MOST_RECORDS = 999_999
 BLOCK_EDGES = 32
 LEAST_BLOCKS, MOST_BLOCKS, USUAL_BLOCKS = 16, 65_536, 16_384
 MOST_SEATS, USUAL_SEATS = 16, 2
-MOST_WORKERS, USUAL_WORKERS = 8, 4
 
 # The fields behind the first one, by command.
 FORMATS: Dict[str, Tuple[str, ...]] = {

@@ -74,7 +74,7 @@ class Terms:
     @staticmethod
     def denied(fault: Denied, asked: str) -> Refused:
         """The exception for what an engine denied where this was asked."""
-        return refusal(fault.word, asked, record=fault.record)
+        return refusal(fault.word, asked)
 
     def row(self, fields: Sequence[str]) -> Row:
         """The engine's operation for the fields of a record. Raises a `Refused` where a rule is broken."""
