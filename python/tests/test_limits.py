@@ -58,14 +58,16 @@ class OfLimits(unittest.TestCase):
     def test_shapes(self):
         """A desk's limits have room for what there is, and are within the walls."""
         light = Limits(weight=1 << 39), Limits(weight=1), Limits(kinds=3, weight=1_000), Limits(16_000_000, weight=1 << 39)
-        limits = (Limits(), Limits(vertices=1_000), Limits(kinds=3), Limits(500_000, 16), *light)
+        each = (Limits(), Limits(vertices=1_000), Limits(kinds=3), Limits(500_000, 16), *light)
         sizes = 0, 1, 1_000, 131_071, 131_072, 1_048_575, 1_048_576, 8_388_606, 8_388_607, 16_777_214, 67_108_863
-        for said, vertices, kinds in itertools.product(limits, sizes, (0, 1, 2, 3, 8, 9, 17, 33, 64)):
+        for said, vertices, kinds in itertools.product(each, sizes, (0, 1, 2, 3, 8, 9, 17, 33, 64)):
             if not said.over(vertices, kinds):
                 found = said.shape(vertices, kinds)
                 self.assertTrue(found.vertices >= vertices and found.kinds >= kinds, (said, vertices, kinds, found))
                 self.assertLessEqual(found.vertices * found.kinds, said.product)
                 self.assertEqual((found.checked(), found.weight), (found, said.weight))
+        for kinds, room in ((0, 8), (8, 8), (9, 16), (16, 16), (17, 32), (32, 32), (33, 64), (64, 64)):
+            self.assertEqual(Limits().shape(1_000, kinds), (limits.MOST_PRODUCT // room, room, limits.MOST_BATCHES, None))
 
 
 class Room(Case):
@@ -206,7 +208,8 @@ class Room(Case):
             engine.library.desk_free(desk)
         for vertices, kinds, weight, code in ((67_108_863, 64, 2_147_483_679, 0), (67_108_863, 64, 2_147_483_680, 19),
                                               (8_388_607, 1, (1 << 40) - 1, 0), (8_388_607, 1, 1 << 40, 19),
-                                              (67_108_864, 1, 1, 19), (1, 1, 1 << 40, 0), (1, 1, (1 << 40) + 1, 19)):
+                                              (67_108_864, 1, 1, 19), (1, 1, 1 << 40, 0), (1, 1, (1 << 40) + 1, 19),
+                                              (51_030_674, 3, 60_247_241_209, 0), (51_030_675, 3, 60_247_241_209, 19)):
             desk, wanted = interface.Desk(), interface.Limits(vertices, kinds, 1)
             with self.subTest(vertices=vertices, kinds=kinds, weight=weight):
                 self.assertEqual(engine.library.desk_new_within_weight(1, wanted, weight, 16, desk), code)

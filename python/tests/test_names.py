@@ -15,7 +15,7 @@ from support import HERE, Case, CommandCase, optional, words_of
 import misteluk
 from misteluk import Degree, Edge, Feed, Store
 from misteluk.command.main import named_edge
-from misteluk.values import names
+from misteluk.values import names, terms
 from misteluk.values.names import NameTable, id_of, shown
 
 IVANOV, WANG, SPACES, LONG = "Иванов Пётр Сергеевич", "王小明", " a  b ", "x" * 120
@@ -37,6 +37,18 @@ class Tables(Case):
             self.assertEqual(name == text, text in PLAIN, text)
         self.assertEqual(len(set(there.values())), len(PLAIN + OTHERS))
         self.assertEqual(len(table), len(OTHERS))
+
+    def test_few_names_are_kept_as_known(self):
+        """What was looked at is known the next time, up to a number of names; then the next ones are looked at again."""
+        known = terms.Terms()
+        with mock.patch.object(terms, "MOST_KNOWN", 4):
+            for it in range(9):
+                self.assertTrue(known.knows([f"n{it}", "k"]))
+                self.assertTrue({f"n{it}", "k"} <= known.right)
+                self.assertEqual("n0" in known.right, it < 2)
+                self.assertLessEqual(len(known.right), 4)
+        self.assertFalse(known.knows(["n8", IVANOV]))
+        self.assertFalse(known.knows(["n8", 7]))
 
     def test_an_id_is_made_of_the_text(self):
         made = hashlib.blake2b(IVANOV.encode(), digest_size=15).digest()

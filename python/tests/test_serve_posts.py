@@ -65,6 +65,17 @@ class Readers(unittest.TestCase):
                 continue
             self.assertEqual(bodies.loaded(it.encode() + b" " * (1 << 16))["rows"], wanted)
 
+    def test_a_fault_within_a_long_row(self):
+        """It is the one that `json` finds, though more than a row's signs come behind it."""
+        for size in (10, bodies.WINDOW // 2, bodies.WINDOW - 9, bodies.WINDOW + 99, bodies.LONGEST // 2):
+            text = '{"rows": [["%s" x]%s]}' % ("a" * size, ',["expire", "1"]' * (bodies.LONGEST // 8))
+            with self.assertRaises(json.JSONDecodeError) as wanted:
+                json.loads(text)
+            with self.assertRaises(ValueError) as told:
+                list(bodies.rows_of_json(text.encode()))
+            fault = wanted.exception
+            self.assertEqual(str(told.exception), f"the body is no JSON: {fault.msg}: sign {fault.pos + 1:,}")
+
     def test_rows(self):
         rows = [["add", "k", f"s{it}]", '"],', it, 1] for it in range(5_000)]
         wanted = [tuple(map(str, it)) for it in rows]

@@ -79,7 +79,7 @@ class Calls(Case):
         self.feed(store, "insert l y z 1 1")
         for call in (session.out_of, session.into, session.neighbors, lambda it: session.path("a", it),
                      lambda it: session.path(it, "a"), lambda it: session.within(it, 1, directed=False),
-                     lambda it: session.within(it, 1)):
+                     lambda it: session.within(it, 0, directed=False), lambda it: session.within(it, 1)):
             self.refused(misteluk.NoVertex, "z", lambda: call("z"))
             self.refused(misteluk.BadName, "at least one byte", lambda: call(""))
         for call in (lambda **of: session.out_of("a", **of), lambda **of: session.path("a", "b", **of), session.weights_in,
