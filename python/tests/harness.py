@@ -20,7 +20,8 @@ class Run:
 
     def __init__(self, blocks=4096, seats=16):
         words = [find_program(), "run", "--blocks", str(blocks), "--seats", str(seats)]
-        self.process = subprocess.Popen(words, stdin=subprocess.PIPE, stdout=subprocess.PIPE, stderr=subprocess.DEVNULL, text=True)
+        self.process = subprocess.Popen(words, stdin=subprocess.PIPE, stdout=subprocess.PIPE, stderr=subprocess.DEVNULL,
+                                        text=True)
         self.names, self.texts, self.edges, self.seats = {}, {}, {}, list(range(seats))
 
     def name(self, text):

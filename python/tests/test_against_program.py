@@ -294,8 +294,8 @@ class Comparison(Case):
     def test_a_planted_difference_is_found(self):
         right = {it: getattr(Session, it) for it in ("levels", "edges_columns", "edges_into", "out_of", "diff")}
         for name, planted in (
-                ("levels", lambda session, source, kind=None, since=0, until=LAST: right["levels"](session, source, kind, since + 1,
-                                                                                                until)),
+                ("levels", lambda session, source, kind=None, since=0, until=LAST:
+                    right["levels"](session, source, kind, since + 1, until)),
                 ("edges_columns", lambda session, *given: right["edges_columns"](session, *given)[1:]),
                 ("edges_into", lambda session, *given: right["edges_into"](session, *given)[:-1]),
                 ("out_of", lambda session, source, *_: right["out_of"](session, source)),
