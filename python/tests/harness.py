@@ -1,7 +1,7 @@
 """`stinger run` as another voice: a store that is told operations and asked through pipes, record by record.
 
-It has its own names for texts, and numbers its records itself: nothing of the client is in it but `find_program`. What the program
-has no record for, as all edges of a version, is worked out here by plain loops from what it answers.
+It has its own names for texts, and numbers its records itself: nothing of the client is in it but `find_program`. What the
+program has no record for, as all edges of a version, is worked out here by plain loops from what it answers.
 """
 import subprocess
 from collections import Counter

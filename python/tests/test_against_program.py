@@ -10,7 +10,7 @@ from unittest import mock
 from asking import NO_ANSWERS, awaited
 from graphs import KINDS, NAMES
 from harness import LAST, Refused, Run
-from support import IS_SERVED, Case
+from support import IS_SERVED, Case, optional
 
 import misteluk
 from misteluk import Answer, AwaitedSession, Diff, Edges, Session
@@ -92,6 +92,9 @@ SAID = {
     "has": lambda voice, a, b, k: [a in voice.degrees(), (k, a, b) in voice.edges()],
     "diff": lambda voice, a, b, k, later: diff(voice, later),
 }
+# Questions that need a package: where it isn't there they are passed over.
+NEEDS = {"edges_frame": "pandas", "to_networkx": "networkx", "to_igraph": "igraph", "to_scipy": "scipy"}
+ASKED = [it for it in SAID if optional(NEEDS.get(it, "misteluk"))]
 
 
 def sums(edges):
@@ -241,7 +244,7 @@ class Both:
         for at, (session, voice) in enumerate(self.held):
             self.same("size", (session.version, session.names), (voice.version, voice.count))
             by = awaited(AwaitedSession(session), self.loop) if at else lambda call, *given: call(session, *given)
-            for name in SAID:
+            for name in ASKED:
                 self.ask(session, voice, by, name, path)
 
     def ask(self, session, voice, by, name, path):
