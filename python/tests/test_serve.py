@@ -96,9 +96,12 @@ class Answers(ServeCase):
                 self.assertEqual((session.version, session.is_open, len(into), "neighbors" in dir(session)), (1, True, 2, True))
                 with self.assertRaises(misteluk.NoVertex):
                     await session.out_of("zed")
-                self.assertRaises(AttributeError, lambda: session.nothing)
+                for name in ("nothing", "_terms"):  # (what is the session's own stays its own)
+                    self.assertFalse(hasattr(session, name), name)
+                self.assertEqual(repr(session), f"<Awaited {session.session!r}>")
                 async with await connect_async(self.server.url) as other:
                     return levels, edge, walk, len(graph), bool(await session.diff(other))
+        self.assertFalse(hasattr(misteluk.AwaitedSession.__new__(misteluk.AwaitedSession), "session"))
         found = asyncio.run(both())
         walk = ["boss", "ana", "funnel", "offshore"]
         self.assertEqual(found, ({"ana": 0, "funnel": 1, "offshore": 2}, Edge(950, 1, 1), walk, 1, False))

@@ -5,11 +5,13 @@ import threading
 import time
 import unittest
 import warnings
+from unittest import mock
 
 from serving import ServeCase
 from support import as_soon_as
 
 from misteluk import Served, SessionClosed, connect, connect_async
+from misteluk.serve import alive
 from misteluk.serve.limits import ServerLimits
 
 ROW = [["add", "k", "a", "b", 1, 1]]
@@ -46,13 +48,24 @@ class Alive(ServeCase):
         as_soon_as(lambda: self.held() == {2: 0} and not self.threads())
 
     def test_a_session_that_is_closed(self):
-        """Its thread ends at once, and doesn't wait until it would tell the server something."""
+        """Its thread ends at once, and doesn't wait until it would tell the server something. It keeps no process from its end.
+        A version is given back once."""
         self.fed(limits=ServerLimits(idle=600))
         session = connect(self.server.url, keep_alive=True)
-        self.assertEqual((len(self.threads()), sum(self.held().values())), (1, 1))
-        session.close()
-        as_soon_as(lambda: not self.threads(), 10)
-        self.assertEqual(sum(self.held().values()), 0)
+        self.assertEqual(([it.daemon for it in self.threads()], sum(self.held().values())), ([True], 1))
+        with mock.patch.object(alive, "_give_back") as given_back:
+            session.close()
+            as_soon_as(lambda: not self.threads(), 10)
+            self.assertEqual(sum(self.held().values()), 0)
+            del session
+            gc.collect()
+            with warnings.catch_warnings():
+                warnings.simplefilter("ignore", ResourceWarning)
+                forgotten = connect(self.server.url)
+                del forgotten
+                gc.collect()
+            as_soon_as(lambda: given_back.called)
+        self.assertEqual(given_back.call_count, 1)
 
     def test_one_that_is_awaited(self):
         """Its `len` is asked by `ask`."""

@@ -131,8 +131,14 @@ class Doors(ServeCase):
         self.serve(limits=ServerLimits(body=1_024))
         self.assertEqual(self.ask("/v1/rows", "POST", b"x" * 2_000, Content_Type="text/csv").status, 413)
         self.assertEqual(self.post("/v1/rows", {"rows": FEED}).status, 200)
-        for name, value in (("body", 5), ("clients", 0), ("questions", 99), ("idle", 0), ("time", float("nan"))):
-            self.assertRaises(ValueError, ServerLimits(**{name: value}).checked)
+
+    def test_what_limits_may_be(self):
+        for name, least, most in (("body", 1_024, 1 << 30), ("clients", 1, 100_000), ("questions", 1, 64),
+                                  ("versions", 1, 100_000), ("idle", 1e-9, 1e6), ("time", 1e-9, 1e6)):
+            for value in (least, most):
+                self.assertEqual(getattr(ServerLimits(**{name: value}).checked(), name), value)
+            for value in (least - 1, 0, most + 1, *[float("nan")] * isinstance(least, float)):
+                self.assertRaises(ValueError, ServerLimits(**{name: value}).checked)
 
     def test_a_question_that_takes_too_long(self):
         """It is told so, and lets its version go when it comes to its end."""

@@ -66,6 +66,13 @@ class Weights(Case):
             for way in self.ways(wrong):
                 self.assertRaises((misteluk.BadWeight, misteluk.BadRows, misteluk.FeedFault), way, self.store(weight_scale=1))
 
+    def test_texts_of_numbers(self):
+        """A whole one below 1e19 is told without decimals, others as Python prints them."""
+        for value, text in ((9e18, "9000000000000000000"), (1e19, "1e+19"), (-1e19, "-1e+19"), (Decimal("9E+18"), "9" + 18 * "0"),
+                            (Decimal("1E+19"), "1E+19"), (Decimal("-1E+19"), "-1E+19"), (Fraction(10**19), "1" + 19 * "0"),
+                            (Fraction(3), "3"), (Fraction(5, 2), "5/2"), (10**19, "1" + 19 * "0")):
+            self.assertEqual(texts.text_of(value), text)
+
     @unittest.skipUnless(optional("pandas"), "pandas is not there")
     def test_columns_of_each_type(self):
         """Of arrays, and of frames, also with pandas' own types that may lack a value."""
