@@ -1,4 +1,5 @@
 """How a server ends, and what doesn't end it: what was acknowledged is saved before anything else."""
+import asyncio
 import os
 import signal
 import socket
@@ -13,7 +14,7 @@ from serving import FEED, ServeCase
 from support import HERE, as_soon_as
 
 from misteluk import Busy, Edge, Served, Store
-from misteluk.serve import ending
+from misteluk.serve import door, ending
 
 # A server whose answers stop for long before their part of this number, amid what one thread does.
 SLOW = """
@@ -156,15 +157,26 @@ class Ends(ServeCase):
             server.handle_exit(number, None)
             self.assertEqual((server.should_exit, server.force_exit), (True, True))
 
+    def test_connections_that_wait(self):
+        """As many as the door has room for wait in the sockets' queues, and not uvicorn's number."""
+        listening, begun = [mock.Mock(), mock.Mock()], mock.AsyncMock()
+        base = type("Base", (), {"__init__": lambda it, config: None, "startup": begun})
+        asyncio.run(ending.made(base, None, None).startup(sockets=listening))
+        begun.assert_awaited_once_with(sockets=listening)
+        for it in listening:
+            it.listen.assert_called_once_with(door.QUEUE)
+
     def test_the_last_of_a_process(self):
         """It ends with the status that it has, which is asked and told once."""
         for status in (0, 1):
             last = mock.Mock(return_value=status)
             deadline = ending.Deadline(last)
-            with mock.patch.object(os, "_exit") as exited:
+            seen = mock.Mock()
+            with mock.patch.object(os, "_exit", seen.exit), mock.patch("sys.stdout", seen.out), mock.patch("sys.stderr", seen.err):
                 self.assertEqual(deadline.status(), status)
                 deadline._end()
-            self.assertEqual((exited.call_args_list, last.call_count), ([mock.call(status)], 1))
+            self.assertEqual(seen.mock_calls, [mock.call.out.flush(), mock.call.err.flush(), mock.call.exit(status)])
+            self.assertEqual(last.call_count, 1)
         deadline = ending.Deadline(mock.Mock(side_effect=BrokenPipeError))
         with mock.patch.object(os, "_exit") as exited:
             deadline._end()

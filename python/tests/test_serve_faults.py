@@ -1,5 +1,6 @@
 """What goes wrong within a server: its threads, each of whose faults is told, and requests that no client means."""
 import io
+import json
 import threading
 import unittest
 from contextlib import redirect_stderr
@@ -9,10 +10,45 @@ from serving import FEED, ServeCase
 from support import as_soon_as
 
 import misteluk
+from misteluk.engine.protocol import Denied
 from misteluk.feeds.apart import Apart
+from misteluk.serve import faults
+from misteluk.serve.board import Full
+from misteluk.serve.flow import WORD
 from misteluk.serve.keeping import Keeper
+from misteluk.serve.limits import TooLarge
 
 FAULTS = (KeyError("rows"), MemoryError(), RecursionError("too deep"), AttributeError("no such thing"), SystemExit(3))
+
+
+STAT = misteluk.Stat(3, 2, 1, 5, 6, 7)
+# Faults, and the status and the word that a client is told.
+TOLD = ((Denied("NoVertex"), 404, "NoVertex"), (Denied("NoKind"), 404, "NoKind"), (misteluk.NoVertex("ann"), 404, "NoVertex"),
+        (misteluk.SessionClosed("it is closed"), 410, "SessionClosed"), (misteluk.Busy("another one"), 409, "Busy"),
+        (Denied("PoolEmpty", STAT), 409, "PoolEmpty"), (Denied("NamesFull"), 409, "NamesFull"),
+        (Denied("KindsFull"), 409, "KindsFull"), (Denied("BatchLimit"), 409, "BatchLimit"),
+        (misteluk.PoolEmpty(needed=9, free=5), 409, "PoolEmpty"), (misteluk.NoMemory("none"), 503, "NoMemory"),
+        (misteluk.NotAllowed("no token"), 403, "NotAllowed"), (TooLarge("a post is long"), 413, "TooLarge"),
+        (Full("NoRoom", "64 versions are held", 7), 503, "NoRoom"), (misteluk.BadWeight("w"), 400, "BadWeight"),
+        (Denied("BadWindow"), 400, "BadWindow"), (misteluk.StoreError("a fault"), 400, "StoreError"),
+        (ValueError("no such field"), 400, "BadRequest"), (KeyError("rows"), 400, "BadRequest"))
+
+
+class Told(unittest.TestCase):
+    def test_each_fault(self):
+        """A client knows by `denied` what its engine denied, and by `stat` how many blocks there were."""
+        for fault, status, word in TOLD:
+            with self.subTest(repr(fault)):
+                scope: dict = {}
+                answer = faults.told_fault(fault, scope)
+                told = json.loads(answer.body)
+                self.assertEqual((answer.status_code, told["error"], scope[WORD]), (status, word, word))
+                self.assertEqual(told.get("denied", False), isinstance(fault, Denied))
+                self.assertEqual(told.get("stat"), STAT._asdict() if word == "PoolEmpty" and "denied" in told else None)
+                self.assertEqual((told.get("retry_after"), answer.headers.get("retry-after")),
+                                 (7, "7") if word == "NoRoom" else (None, None))
+                self.assertEqual(answer.headers.get("connection"), "close" if word == "TooLarge" else None)
+                self.assertFalse(told["reason"].startswith((word + ":", " ")))
 
 
 class Threads(ServeCase):
