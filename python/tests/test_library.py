@@ -18,7 +18,7 @@ from support import HERE, Case
 
 import misteluk
 from misteluk import Edge, Store
-from misteluk.engine import calling, finding, interface
+from misteluk.engine import calling, finding, held, interface
 from misteluk.engine.finding import OF_LIBRARY, find_library
 from misteluk.engine.guard import Guard, Notes, Owned, alone
 
@@ -75,6 +75,23 @@ class InProcess(Case):
             self.assertRaises(misteluk.NoVertex, ask, "c")
         self.assertRaises(misteluk.NoKind, old.edge, "l", "a", "b")
         self.assertEqual((old.edge("k", "a", "b"), new.edge("k", "a", "b")), (Edge(1, 1, 1), Edge(1, 1, 1)))
+
+    def test_an_opening_costs_no_walk_over_names(self):
+        """A version's sizes, for which the library goes through all its names, are asked for once many names are wanted."""
+        store = self.store("insert k a b 1 1", "insert l b c 2 2", seats=3)
+        sizes = mock.Mock(side_effect=store.engine.library.version_size)
+        with mock.patch.object(store.engine.library, "version_size", sizes):
+            first = store.open()
+            self.assertEqual((first.version, first.names, list(first.degrees()), first.edges_columns().kinds),
+                             (1, 3, ["a", "b", "c"], ("k", "l")))
+            names = [f"{it:064}" for it in range(held.FEW_NAMES + 1)]
+            store.load({"source": names[:-1], "target": names[1:]}, by="set")
+            second = store.open()
+            self.assertEqual((second.version, second.names, sizes.call_count), (2, len(names) + 3, 0))
+            self.assertEqual((list(second.degrees()), sizes.call_count), (["a", "b", "c", *names], 1))
+            store.insert("m", "z" * 64, "a")
+            store.commit()
+            self.assertEqual((list(store.open().degrees())[-2:], sizes.call_count), ([names[-1], "z" * 64], 1))
 
     def test_threads_feed_one_store(self):
         store = self.store()

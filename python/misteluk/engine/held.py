@@ -17,9 +17,11 @@ from .protocol import WHOLE, Arrays, Denied, Ends, Marks, Scope
 from ..errors import NoSeat, SessionClosed
 from ..values.answers import Rebased
 from ..values.limits import Limits
+from ..values.records import MOST_NAME
 
-# What no hold has; and how many edges of a vertex are asked for at first.
-NO_HOLD, A_ROW = (1 << 64) - 1, 32
+# What no hold has; how many edges of a vertex are asked for at first; and up to how many names the room for them isn't asked for
+# (there are fewer kinds).
+NO_HOLD, A_ROW, FEW_NAMES = (1 << 64) - 1, 32, 4_096
 ALL_EDGES = interface.View(WHOLE.since, WHOLE.until, interface.ANY_KIND)
 
 
@@ -96,15 +98,16 @@ class LibraryVersion:
         self.told: Dict[str, bytes] = {}
 
     def begin(self) -> None:
-        """Takes hold of the desk's last version, and asks what that is. Raises `NoSeat`."""
+        """Takes hold of the desk's last version, and asks the desk how large that is, which nobody else calls meanwhile: the
+        version itself would add up the lengths of all its names. Raises `NoSeat`."""
         code = self._library.desk_hold(self.desk.raw, self._first.raw, self._hold.raw)
         if code == Code.NO_SEAT:
             raise NoSeat()
         check(code)
-        size = interface.Size()
-        check(self._library.version_size(self._first.raw, size))
-        self.number, self.count, self._edges = size.version + self._before, size.vertices, size.edges
-        self._bytes, self._kind_bytes, self._kind_count = size.name_bytes, size.kind_bytes, size.kinds
+        stat = interface.Stat()
+        check(self._library.desk_stat(self.desk.raw, stat))
+        self.number, self.count, self._edges = stat.version + self._before, stat.vertices, stat.edges
+        self._kind_count = stat.kinds
         self._is_open = True
 
     @property
@@ -184,18 +187,24 @@ class LibraryVersion:
         kept = self.kept
         found = kept.names
         if found is None:
-            found = kept.names = self._told(self._known.names, self._library.version_names, self.count, self._bytes)
+            found = kept.names = self._told(self._known.names, self._library.version_names, self.count)
         return found
 
     def kinds(self) -> List[str]:
-        return self._told(self._known.kinds, self._library.version_kind_names, self._kind_count, self._kind_bytes)
+        return self._told(self._known.kinds, self._library.version_kind_names, self._kind_count)
 
-    def _told(self, known: List[str], call: Any, count: int, size: int) -> List[str]:
-        """The first names, so many; those that aren't known yet are asked for."""
+    def _told(self, known: List[str], call: Any, count: int) -> List[str]:
+        """The first names, so many; those that aren't known yet are asked for, with room for the longest ones where they are few,
+        and else for as many bytes as all names have, which the version has to add up."""
         self._must_be_open()
         with self._known.lock:
             first = len(known)
             if first < count:
+                size = (count - first) * MOST_NAME
+                if count - first > FEW_NAMES:
+                    sizes = interface.Size()
+                    check(self._ask(self._library.version_size, sizes))
+                    size = sizes.name_bytes
                 text, ends = room("B", size), room("Q", count - first)
                 check(self._ask(call, first, address(text), size, address(ends), count - first))
                 known[first:] = texts_of(text, ends)
