@@ -34,7 +34,8 @@ from .serve.client import Served, connect
 from .session import Session
 from .store import Store
 from .values.answers import Answer, Collected, Commit, Components, Degree, Edge, Neighbor, Rebased, Renewed, Stat
-from .values.edges import Changed, Diff, Edges
+from .values.diff import Changed, Diff
+from .values.edges import Edges
 from .values.limits import Limits
 from .version import VERSION as __version__
 

@@ -9,15 +9,17 @@ from __future__ import annotations
 import hashlib
 import os
 import re
-from array import array
-from typing import TYPE_CHECKING, Any, Callable, Dict, List, NamedTuple, Optional, Sequence, Set, Tuple
+from typing import TYPE_CHECKING, Any, Callable, Dict, List, NamedTuple, Optional, Tuple
 from urllib.parse import unquote
 
 from . import files
 
 from .values import records
+from .engine.calling import MOST_AT_ONCE
 from .engine.copies import Content, content_of, operations_of
-from .engine.operations import REMOVE, Operations, Row, records_of, row_of
+from .engine.operations import Numbered, Operations
+from .engine.room import Room
+from .engine.scripts import Records, operations_in
 from .errors import Missing, PoolEmpty, SaveFault, StoreError
 from .feeds.feed import escaped, parts_of
 from .engine.finding import Path
@@ -68,50 +70,10 @@ class Found(NamedTuple):
 
     facts: Dict[str, str]
     texts: Dict[str, str]
-    operations: List[Row]
+    operations: Numbered
 
     def count(self, fact: str) -> int:
         return int(self.facts[fact])
-
-
-class Room:
-    """How many blocks the edges take behind each operation of a copy, in a store that is collected behind each batch."""
-
-    def __init__(self, operations: Sequence[Row]) -> None:
-        self.behind = array("I", [0])
-        edges: Set[Tuple[str, ...]] = set()
-        degrees: Dict[Tuple[str, ...], int] = {}
-        used = 0
-        for code, *ends, _, __ in operations:
-            edge, source = tuple(ends), tuple(ends[:2])
-            degree = degrees.get(source, 0)
-            if code == REMOVE:
-                edges.remove(edge)
-                degrees[source] = degree - 1
-                used -= (degree - 1) % records.BLOCK_EDGES == 0
-            elif edge not in edges:
-                edges.add(edge)
-                degrees[source] = degree + 1
-                used += degree % records.BLOCK_EDGES == 0
-            self.behind.append(used)
-
-    def needed(self, batch: int) -> int:
-        """How many blocks batches of this size need: each as many free ones as it has operations."""
-        count = len(self.behind) - 1
-        return max((self.behind[at] + min(batch, count - at) for at in range(0, count, batch)), default=0)
-
-    def fitting(self) -> int:
-        """How many blocks a store needs, the usual number or more; batches are smaller where it would be more than a program has,
-        unless even one operation finds none there."""
-        needed = max(records.USUAL_BLOCKS, self.needed(records.MOST_OPERATIONS))
-        return min(needed, records.MOST_BLOCKS) if self.needed(1) <= records.MOST_BLOCKS else needed
-
-    def batch(self, blocks: int) -> int:
-        """The size of batches for which so many blocks are enough, or 0."""
-        size = records.MOST_OPERATIONS
-        while size and self.needed(size) > blocks:
-            size //= 2
-        return size
 
 
 def save(session: "Session[Any, Any]", path: Path, progress: Optional[bool] = None) -> Saved:
@@ -120,7 +82,7 @@ def save(session: "Session[Any, Any]", path: Path, progress: Optional[bool] = No
     files.place_of(path)
     session.must_be_open()
     content = content_of(session.held)
-    operations = list(operations_of(content))
+    operations = operations_of(content)
     room = Room(operations)
     blocks = room.fitting()
     size = room.batch(blocks) or records.MOST_OPERATIONS
@@ -128,14 +90,15 @@ def save(session: "Session[Any, Any]", path: Path, progress: Optional[bool] = No
     with files.whole(path) as file, files.packer(file, ending) as packed:
         for at in range(0, len(script), _WRITTEN_AT_ONCE):
             packed.write(script[at:at + _WRITTEN_AT_ONCE])
-    return Saved(os.fspath(path), session.version, len(content.names), len(content.edges), script.count(b"\n"), blocks)
+    return Saved(os.fspath(path), session.version, len(content.names), content.edges.size, script.count(b"\n"), blocks)
 
 
 # What is written.
 
-def _script(head: str, operations: Sequence[Row], size: int) -> bytes:
+def _script(head: str, operations: Numbered, size: int) -> bytes:
     """The whole file; the operations in batches of this size."""
-    batches = (f"{records_of(it)}commit\ncollect\n" for it in parts_of(operations, size))
+    written = Records(operations)
+    batches = (f"{written.text(slice(at, at + size))}commit\ncollect\n" for at in range(0, len(operations.codes), size))
     told = "".join([head, *batches]).encode("ascii")
     return f"{_OPENING}i,{KIND},form:{FORM},{hashlib.sha256(told).hexdigest()},0,0\n".encode("ascii") + told
 
@@ -144,13 +107,13 @@ def _head(session: "Session[Any, Any]", content: Content, needed: int) -> str:
     """What is told of the file behind its digest. It goes in batches, of which each is let go before the next one, so that few
     names and blocks are enough."""
     store, units = session.store, session.store.units
-    facts = {"version": session.version, "names": len(content.names), "edges": len(content.edges), "blocks": store.blocks,
+    facts = {"version": session.version, "names": len(content.names), "edges": content.edges.size, "blocks": store.blocks,
              "needed": needed, **({"grows": 1} if store.engine.grows else {})}
     told = [(it, str(value)) for it, value in facts.items()]
     if store.ledger.units_are_set:
         told += [("weight_scale", str(units.weight_scale)), ("times", units.times)]
     to_user = store.ledger.terms.names.to_user
-    texts = ((it, to_user(it)) for it in dict.fromkeys([*content.kinds, *content.names]))
+    texts = ((it, to_user(it)) for it in dict.fromkeys([*content.kinds, *content.names]) if it.startswith(MARK))
     told += [(it, piece) for it, text in texts if text != it for piece in _pieces(escaped(text))]
     lines = (records.record(("i", KIND, it, piece, "0", "0")) for it, piece in told)
     batches = map("".join, parts_of(lines, records.MOST_OPERATIONS - 2))
@@ -192,8 +155,7 @@ def found_in(data: bytes, name: str) -> Found:
         raise SaveFault(f"{name} is damaged or cut: its digest is another than that of what it has. Nothing is restored")
     head, _, body = told.decode("ascii").partition(_END)
     facts, texts = _told(head)
-    lines = (it for it in body.splitlines() if it[1] == ",")
-    return Found(facts, texts, list(map(row_of, map(records.split_record, lines))))
+    return Found(facts, texts, operations_in(body))
 
 
 def _told(head: str) -> Tuple[Dict[str, str], Dict[str, str]]:
@@ -226,8 +188,8 @@ def restore(path: Path, make: "Callable[[int, Optional[int], Optional[str]], Sto
     try:
         store = make(blocks, scale, found.facts.get("times"))
         store.engine.grows = grows
-        store.engine.fit(found.count("names"), len({it[1] for it in found.operations}), found.count("needed"))
-        _fill(store, found, size, Progress(f"restoring {os.fspath(path)}", len(found.operations), progress))
+        store.engine.fit(found.count("names"), len(found.operations.of_kinds.names), found.count("needed"))
+        _fill(store, found, size, Progress(f"restoring {os.fspath(path)}", len(found.operations.codes), progress))
         stat, wanted = store.stat(), (found.count("names"), found.count("edges"))
         if (stat.names, stat.edges) != wanted:
             raise StoreError(f"{stat.names} names and {stat.edges} edges came of {os.fspath(path)}, and not {wanted}")
@@ -242,18 +204,21 @@ def _fill(store: "Store[Any, Any]", found: Found, size: int, told: Progress) -> 
     """Applies a file's operations, in batches of this size, to an empty store, and takes its names and kinds."""
     ledger = store.ledger
     ledger.terms.names.put(found.texts)
-    for part in parts_of(found.operations, size or 1):
-        ledger.apply(Operations(part), True)
-        told.step(len(part))
+    at, count = 0, len(found.operations.codes)
+    while at < count:
+        most = store.stat().free // records.MOST_OPERATIONS * records.MOST_OPERATIONS
+        part = found.operations.some(slice(at, at + max(min(most, MOST_AT_ONCE), size or 1)))
+        ledger.apply(Operations(columns=part), True)
+        told.step(len(part.codes))
+        at += len(part.codes)
     told.end()
-    kinds = dict.fromkeys(it[1] for it in found.operations)
-    ledger.kinds.update(dict.fromkeys(map(ledger.terms.names.to_user, kinds)))
+    ledger.kinds.update(dict.fromkeys(map(ledger.terms.names.to_user, found.operations.of_kinds.names)))
 
 
 def _batch(name: str, found: Found, room: Room, blocks: int) -> int:
     """The size of batches for so many blocks. Raises where there is none."""
     size = room.batch(blocks)
-    if found.operations and not size:
+    if found.operations.codes and not size:
         raise PoolEmpty(needed=room.needed(1), free=blocks, text=f"{name} needs at least {room.needed(1)} blocks, and {blocks} "
                         "are said. Nothing is restored", advice="")
     return size

@@ -13,7 +13,8 @@ from .engine.protocol import WHOLE, Arrays, Denied, Held, Scope
 from .errors import BadName, NoKind, NoVertex, SessionClosed, refusal
 from .values import records
 from .values.answers import Answer, Components, Degree, Edge, Neighbor, T, Values, W, degrees, shown_as_html
-from .values.edges import Diff, Edges
+from .values.diff import Diff
+from .values.edges import Edges
 from .values.names import Called, must_be_texts
 from .values.terms import Terms
 from .values.texts import text_of

@@ -10,6 +10,7 @@ import misteluk
 from misteluk.engine import copies as copying
 from misteluk.engine.copies import content_of, operations_of
 from misteluk.engine.operations import INSERT, Operations
+from misteluk.engine.protocol import Arrays
 
 KINDS = ("road", 'a,"kind"', "rail")
 WINDOWS = ({}, {"since": 30}, {"until": 40}, {"since": 20, "until": 50}, {"since": 61, "until": 61})
@@ -50,10 +51,9 @@ class Copies(Case):
     def copied(self, content):
         store = self.store(blocks=2048)
         store.ledger.terms.names.take(self.names)
-        operations = list(operations_of(content))
-        for at in range(0, len(operations), 4):
-            part = operations[at:at + 4]
-            store.ledger.apply(Operations(part), True)
+        operations = operations_of(content)
+        for at in range(0, len(operations.codes), 4):
+            store.ledger.apply(Operations(columns=operations.some(slice(at, at + 4))), True)
         return store.open()
 
     def differ(self, seed):
@@ -65,8 +65,8 @@ class Copies(Case):
             content = content_of(it.held)
             copy = self.copied(content)
             count += answers_of(it, [*names, "nobody"]) != answers_of(copy, [*names, "nobody"])
-            self.assertLessEqual(len(list(operations_of(content))),
-                                 2 * (len(content.edges) + len(content.names) + len(content.kinds)))
+            self.assertLessEqual(len(operations_of(content).codes),
+                                 2 * (content.edges.size + len(content.names) + len(content.kinds)))
         return count
 
     def test_copies(self):
@@ -74,24 +74,26 @@ class Copies(Case):
 
     def test_faults_are_found(self):
         """A copy without first times, with names out of order, and without the loops that make names known."""
-        def recent_alone(edge):
-            yield (INSERT, *edge[:4], edge[5])
+        def recent_alone(found, edges, items):
+            put(found, edges._replace(firsts=edges.recents), items)
 
-        def out_of_order(content):
-            return [list(content.edges), *([] for _ in content.names)]
-        for name, fault in (("_edge", recent_alone), ("_by_later_end", out_of_order), ("_loop", lambda *_: iter(()))):
+        def out_of_order(content, is_begun):
+            return iter(range(content.edges.size))
+        put = copying._put
+        for name, fault in (("_put", recent_alone), ("_items", out_of_order), ("_put_loop", lambda *_: None)):
             with self.subTest(name), mock.patch.object(copying, name, fault):
                 self.assertGreater(sum(map(self.differ, range(4))), 0)
 
     def test_names_without_edges_fall_away(self):
         store = self.store("insert road a b 1 1", "insert rail c d 2 2", "insert road d b 3 3", "remove rail c d")
         content = content_of(store.open().held)
-        edges = [("road", "a", "b", 1, 1, 1), ("road", "d", "b", 3, 3, 3)]
-        self.assertEqual(content, (["road", "rail"], ["a", "b", "c", "d"], edges))
+        edges = [[0, 0], [0, 3], [1, 1], [1, 3], [1, 3], [1, 3]]
+        self.assertEqual((content.kinds, content.names, [it.tolist() for it in content.edges]),
+                         (["road", "rail"], ["a", "b", "c", "d"], edges))
         active = content.without_idle_names()
         self.assertEqual((active.kinds, active.names), (["road"], ["a", "b", "d"]))
-        self.assertEqual(list(operations_of(active)), [(INSERT, "road", "a", "b", 1, 1), (INSERT, "road", "d", "b", 3, 3)])
-        self.assertEqual(list(operations_of(copying.Content([], [], []))), [])
+        self.assertEqual(operations_of(active).rows(), [(INSERT, "road", "a", "b", 1, 1), (INSERT, "road", "d", "b", 3, 3)])
+        self.assertEqual(operations_of(copying.Content([], [], Arrays.none())).rows(), [])
 
 
 if __name__ == "__main__":

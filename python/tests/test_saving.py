@@ -17,7 +17,7 @@ import misteluk
 from misteluk import Store, names, saving
 from misteluk.engine import copies as copying
 from misteluk.engine.protocol import WHOLE
-from misteluk.engine.operations import INSERT, Operations
+from misteluk.engine.operations import INSERT, Numbered, Operations
 from misteluk.values import records
 
 WINDOWS = ((0, records.MOST_TIME), (30, records.MOST_TIME), (10, 40))
@@ -84,9 +84,10 @@ class Saving(Case):
         self.assertEqual([self.differ(seed, ENDINGS[seed % 4]) for seed in range(6)], [0] * 6)
 
     def test_faults_are_found(self):
-        def recent_alone(edge):
-            yield (INSERT, *edge[:4], edge[5])
-        for where, name, fault in ((copying, "_edge", recent_alone), (copying, "_loop", lambda *_: iter(())),
+        def recent_alone(found, edges, items):
+            put(found, edges._replace(firsts=edges.recents), items)
+        put = copying._put
+        for where, name, fault in ((copying, "_put", recent_alone), (copying, "_put_loop", lambda *_: None),
                                    (names.NameTable, "put", lambda *_: None)):
             with self.subTest(name), mock.patch.object(where, name, fault):
                 try:
@@ -212,26 +213,26 @@ class Limits(Case):
             self.addCleanup(play.end)
             for _ in range(14):
                 play.step()
-            operations = list(copying.operations_of(copying.content_of(play.store.open().held)))
+            operations = copying.operations_of(copying.content_of(play.store.open().held))
             room, store = saving.Room(operations), self.store(blocks=64)
-            for at in range(0, len(operations), 5):
-                part = operations[at:at + 5]
-                store.ledger.apply(Operations(part), True)
-                self.assertEqual(store.stat().used, room.behind[at + len(part)])
+            for at in range(0, len(operations.codes), 5):
+                part = Operations(columns=operations.some(slice(at, at + 5)))
+                store.ledger.apply(part, True)
+                self.assertEqual(store.stat().used, room.behind[at + part.size])
 
     def test_room_of_a_loop_that_comes_again(self):
         """The loops by which kinds are made known go before the edges, which may be the same loops."""
         store = self.store("insert k a a 1 1", "insert l a a 1 1")
-        operations = list(copying.operations_of(copying.content_of(store.open().held)))
+        operations = copying.operations_of(copying.content_of(store.open().held))
         self.assertEqual(list(saving.Room(operations).behind), [0, 1, 0, 1, 0, 1, 2])
 
     def test_a_graph_of_all_blocks(self):
         """Where batches of the usual size need more blocks than there are, they are smaller."""
         operations = [(INSERT, "k", f"s{it}", "t", 1, 1) for it in range(records.MOST_BLOCKS - 10)]
-        room = saving.Room(operations)
+        room = saving.Room(Numbered.of(operations))
         self.assertEqual((room.fitting(), room.batch(records.MOST_BLOCKS), room.batch(room.needed(1) - 1)), (65_526, 4096, 0))
-        self.assertEqual(saving.Room([*operations, operations[0]]).batch(records.MOST_BLOCKS), 4096)
-        full = saving.Room([*operations, *[operations[0]] * 4_000])
+        self.assertEqual(saving.Room(Numbered.of([*operations, operations[0]])).batch(records.MOST_BLOCKS), 4096)
+        full = saving.Room(Numbered.of([*operations, *[operations[0]] * 4_000]))
         self.assertEqual((full.batch(records.MOST_BLOCKS), full.batch(records.MOST_BLOCKS - 9)), (8, 1))
 
 

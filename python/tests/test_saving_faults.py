@@ -38,6 +38,11 @@ def in_place(path):
         yield file
 
 
+def told(found):
+    """What a saved file has, with its operations as rows."""
+    return found.facts, found.texts, found.operations.rows()
+
+
 class Faults(Case):
     """What goes wrong while a version is saved or restored."""
 
@@ -139,11 +144,11 @@ class Faults(Case):
         """How many files, cut at each place, or with a byte changed or left out at each, are taken for something else."""
         path, count = self.room / f"d.csv{ending}", 0
         self.session.save(path)
-        data, whole = path.read_bytes(), saving.read(path)
+        data, whole = path.read_bytes(), told(saving.read(path))
         for at in range(len(data)):
             for it in (data[:at], data[:at] + bytes([data[at] ^ 1]) + data[at + 1:], data[:at] + data[at + 1:]):
                 try:
-                    count += saving.found_in(it, "damaged") != whole
+                    count += told(saving.found_in(it, "damaged")) != whole
                 except misteluk.SaveFault:
                     pass
                 except Exception:

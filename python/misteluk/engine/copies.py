@@ -6,76 +6,122 @@ order gets a loop edge, which is inserted and removed.
 """
 from __future__ import annotations
 
-from typing import Any, Iterator, List, NamedTuple, Tuple
+from array import array
+from typing import Any, Iterator, List, NamedTuple
 
-from .operations import INSERT, REMOVE, Row
-from .protocol import WHOLE, Held
-
-# An edge's kind, source, target, weight, first and recent time, in the engine's terms.
-Told = Tuple[str, str, str, int, int, int]
+from .operations import INSERT, REMOVE, Dictionary, Numbered
+from .protocol import A_FEW, WHOLE, Arrays, Held
+from ..values.fields import numpy_for
 
 
 class Content(NamedTuple):
-    """What a version holds, in the engine's terms: the kinds and names in order, and the edges; each edge's kind is among the
-    kinds, and its ends among the names."""
+    """What a version holds, in the engine's terms: the kinds and names in order, and the edges by their numbers there."""
 
     kinds: List[str]
     names: List[str]
-    edges: List[Told]
+    edges: Arrays
 
     def without_idle_names(self) -> "Content":
         """The same without names and kinds that have no edge."""
-        names = {it for edge in self.edges for it in edge[1:3]}
-        kinds = {edge[0] for edge in self.edges}
-        return Content([it for it in self.kinds if it in kinds], [it for it in self.names if it in names], self.edges)
+        edges, names = self.edges, {*self.edges.sources, *self.edges.targets}
+        kinds = set(edges.kinds)
+        of_kinds, of_names = ({old: new for new, old in enumerate(sorted(it))} for it in (kinds, names))
+        columns = (array("I", map(numbers.__getitem__, it)) for numbers, it in zip((of_kinds, of_names, of_names), edges[:3]))
+        found = Arrays._make([*columns, *edges[3:]])
+        return Content([self.kinds[it] for it in of_kinds], [self.names[it] for it in of_names], found)
 
 
 def content_of(version: Held) -> Content:
     """What a version holds."""
-    names, kinds, edges = version.names(), version.kinds(), version.edges(WHOLE)
-    rows: Any = zip(map(kinds.__getitem__, edges.kinds), map(names.__getitem__, edges.sources),
-                    map(names.__getitem__, edges.targets), edges.weights, edges.firsts, edges.recents)
-    return Content(kinds, names, list(rows))
+    return Content(version.kinds(), version.names(), version.edges(WHOLE))
 
 
-def operations_of(content: Content) -> Iterator[Row]:
+def operations_of(content: Content) -> Numbered:
     """The operations that make an empty store hold the content, in order."""
+    found = _no_operations(content)
     if not content.names:
-        return
+        return found
     is_begun = len(content.kinds) > 1
-    for kind in content.kinds if is_begun else ():
-        yield from _loop(kind, content.names[0])
-    groups = _by_later_end(content)
-    for at, name in enumerate(content.names):
-        for edge in groups[at]:
-            yield from _edge(edge)
-        if groups[at] or is_begun and not at:
+    for kind in range(len(content.kinds)) if is_begun else ():
+        _put_loop(found, kind, 0)
+    numpy = numpy_for(content.edges.size, A_FEW)
+    if numpy is None:
+        _put(found, content.edges, _items(content, is_begun))
+    else:
+        _put_at_once(numpy, found, content.edges, _items_at_once(numpy, content, is_begun))
+    return found
+
+
+def _no_operations(content: Content) -> Numbered:
+    columns: Any = map(array, "BIIIqQ")
+    return Numbered._make([*columns, Dictionary.of(content.kinds), Dictionary.of(content.names)])
+
+
+def _items(content: Content, is_begun: bool) -> Iterator[int]:
+    """In order the places of edges, and below 0 the numbers of names that need a loop, -1 for the first one: the edges by the
+    later one of their ends, so that each makes at most that one known."""
+    edges, count = content.edges, len(content.names)
+    groups: List[List[int]] = [[] for _ in range(count + 1)]
+    for at, ends in enumerate(zip(edges.sources, edges.targets)):
+        groups[max(ends)].append(at)
+    for name in range(count):
+        yield from groups[name]
+        if groups[name] or is_begun and not name:
             continue
         # An edge from this name to the next one, where there is one, makes both known in their order.
-        both = next((place for place, it in enumerate(groups[at + 1]) if it[1] == name), None)
+        behind = groups[name + 1]
+        both = next((place for place, it in enumerate(behind) if edges.sources[it] == name), None)
         if both is None:
-            yield from _loop(content.kinds[0], name)
+            yield ~name
         else:
-            groups[at + 1].insert(0, groups[at + 1].pop(both))
+            behind.insert(0, behind.pop(both))
 
 
-def _by_later_end(content: Content) -> List[List[Told]]:
-    """The edges by the later one of their ends, in the order of names; behind them is an empty list."""
-    rank = {name: at for at, name in enumerate(content.names)}
-    groups: List[List[Told]] = [[] for _ in range(len(content.names) + 1)]
-    for it in content.edges:
-        groups[max(rank[it[1]], rank[it[2]])].append(it)
-    return groups
+def _items_at_once(numpy: Any, content: Content, is_begun: bool) -> Any:
+    """The same by whole columns."""
+    sources, targets = (numpy.asarray(it).astype("int64") for it in content.edges[1:3])
+    later = numpy.maximum(sources, targets)
+    is_idle = numpy.bincount(later, minlength=len(content.names)) == 0
+    is_idle[:1] &= not is_begun
+    both = numpy.flatnonzero((targets == sources + 1) & is_idle[sources])
+    both = both[numpy.unique(sources[both], return_index=True)[1]]
+    is_idle[sources[both]] = False
+    order = 2 * later + 1
+    order[both] -= 1  # (they come first of those with this later end)
+    loops = numpy.flatnonzero(is_idle)
+    items = numpy.concatenate([numpy.arange(len(later)), ~loops])
+    return items[numpy.argsort(numpy.concatenate([order, 2 * loops]), kind="stable")]
 
 
-def _loop(kind: str, name: str) -> Iterator[Row]:
-    """A loop edge that is inserted and removed, which makes its name and kind known."""
-    yield INSERT, kind, name, name, 0, 0
-    yield REMOVE, kind, name, name, 0, 0
+def _put_loop(found: Numbered, kind: int, name: int) -> None:
+    """Puts a loop edge that is inserted and removed, which makes its name and kind known."""
+    for code in (INSERT, REMOVE):
+        for column, value in zip(found[:6], (code, kind, name, name, 0, 0)):
+            column.append(value)
 
 
-def _edge(edge: Told) -> Iterator[Row]:
-    kind, source, target, weight, first, recent = edge
-    yield INSERT, kind, source, target, weight, first
-    if recent != first:
-        yield INSERT, kind, source, target, weight, recent
+def _put(found: Numbered, edges: Arrays, items: Iterator[int]) -> None:
+    for it in items:
+        if it < 0:
+            _put_loop(found, 0, ~it)
+            continue
+        kind, source, target, weight, first, recent = [column[it] for column in edges]
+        for time in (first,) if first == recent else (first, recent):
+            for column, value in zip(found[:6], (INSERT, kind, source, target, weight, time)):
+                column.append(value)
+
+
+def _put_at_once(numpy: Any, found: Numbered, edges: Arrays, items: Any) -> None:
+    is_loop = items < 0
+    places = numpy.where(is_loop, 0, items)
+    kinds, sources, targets, weights, firsts, recents = (numpy.asarray(it)[places] for it in edges)
+    counts = 1 + (is_loop | (firsts != recents))
+    at = numpy.repeat(numpy.arange(len(items)), counts)
+    is_second = numpy.zeros(len(at), dtype=bool)
+    is_second[1:] = at[1:] == at[:-1]
+    is_loop, names = is_loop[at], ~items[at]
+    columns = (numpy.where(is_loop & is_second, REMOVE, INSERT), numpy.where(is_loop, 0, kinds[at]),
+               numpy.where(is_loop, names, sources[at]), numpy.where(is_loop, names, targets[at]),
+               numpy.where(is_loop, 0, weights[at]), numpy.where(is_loop, 0, numpy.where(is_second, recents[at], firsts[at])))
+    for column, values, form in zip(found[:6], columns, ("u1", "u4", "u4", "u4", "i8", "u8")):
+        column.frombytes(values.astype(form).tobytes())

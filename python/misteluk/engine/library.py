@@ -298,14 +298,14 @@ class LibraryEngine:
         blocks and these limits. Its batches are as small as its free blocks want them. Raises `Denied` (PoolEmpty) where even one
         operation finds none."""
         opening = self._new(number, blocks, shape)._replace(rebased=self._opening.rebased)
-        operations = list(operations_of(content))
-        at = 0
-        while at < len(operations):
-            part = operations[at:at + min(MOST_AT_ONCE, max(self._stat(opening).free, 1))]
-            flight = self.flight(Operations(part), True)
+        operations = operations_of(content)
+        at, count = 0, len(operations.codes)
+        while at < count:
+            part = Operations(columns=operations.some(slice(at, at + min(MOST_AT_ONCE, max(self._stat(opening).free, 1)))))
+            flight = self.flight(part, True)
             check(self.library.desk_apply(opening.desk.raw, flight.owned.raw, flight.counts))
             self._collect(opening)
-            at += len(part)
+            at += part.size
         check(self.library.desk_rebase(opening.desk.raw))
         return opening
 

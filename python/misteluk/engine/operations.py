@@ -5,7 +5,7 @@ A removal has no weight and time, 0, and an expiry nothing but its time.
 from __future__ import annotations
 
 from array import array
-from collections import defaultdict
+from collections import defaultdict, deque
 from itertools import accumulate, count, islice
 from operator import itemgetter
 from typing import Any, Callable, DefaultDict, Dict, Iterable, List, NamedTuple, Optional, Sequence, Tuple
@@ -17,7 +17,7 @@ from ..values.fields import Fields
 # What an operation does, as the C interface numbers it; and the commands of records, by that number.
 INSERT, ADD, REMOVE, EXPIRE = range(4)
 COMMANDS = "iarx"
-_FORMS = ("i,{},{},{},{},{}\n", "a,{},{},{},{},{}\n", "r,{},{},{}\n", "x,{4}\n")
+FORMS = ("i,{},{},{},{},{}\n", "a,{},{},{},{},{}\n", "r,{},{},{}\n", "x,{4}\n")
 # What an operation does, its kind, source and target, its weight and its time.
 Row = Tuple[int, str, str, str, int, int]
 EXPIRY = (EXPIRE, "", "", "", 0)
@@ -31,6 +31,13 @@ class Dictionary:
     def __init__(self) -> None:
         self.numbers: DefaultDict[str, int] = defaultdict(count().__next__)
         self._encoded: Tuple[bytes, "array[int]"] = (b"", array("Q"))
+
+    @staticmethod
+    def of(names: Iterable[str]) -> "Dictionary":
+        """The one of names that are numbered in this order."""
+        made = Dictionary()
+        deque(map(made.numbers.__getitem__, names), 0)
+        return made
 
     def column(self, names: Sequence[str]) -> "array[int]":
         """The numbers of names."""
@@ -155,7 +162,7 @@ class Quoted(Dict[str, str]):
 def records_of(rows: Iterable[Row]) -> str:
     """The records of operations, one line each."""
     quoted = Quoted()
-    return "".join([_FORMS[code].format(quoted[kind], quoted[source], quoted[target], weight, time)
+    return "".join([FORMS[code].format(quoted[kind], quoted[source], quoted[target], weight, time)
                     for code, kind, source, target, weight, time in rows])
 
 

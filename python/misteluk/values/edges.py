@@ -1,15 +1,14 @@
-"""Edges as arrays with names, and what became of edges from one version to another."""
+"""Edges as arrays with names."""
 from __future__ import annotations
 
-import csv
 import heapq
 from array import array
-from datetime import datetime
 from functools import cached_property
-from typing import TYPE_CHECKING, Any, Dict, Iterator, List, NamedTuple, Sequence, Tuple
+from typing import TYPE_CHECKING, Any, Dict, Iterator, List, Sequence, Tuple
 
 from .answers import ROWS_SHOWN, Edge, rows_as_html
 from .arrays import ReadOnlyArray, cut
+from .fields import fields_of_csv, numpy_for
 from .units import Units
 from ..engine.finding import Path
 from ..errors import needed
@@ -23,7 +22,8 @@ if TYPE_CHECKING:
     import scipy.sparse
 
 HEADER = ("kind", "source", "target", *Edge._fields)
-DIFF_HEADER = ["state", *HEADER[:3], *(f"{it}_{when}" for when in ("before", "after") for it in Edge._fields)]
+# How many edges are written at once; and from how many on numpy is quicker than loops, once it is loaded.
+WRITTEN_AT_ONCE, A_FEW = 65_536, 500
 # An edge as a user is told it.
 Told = Tuple[str, str, str, Any]
 
@@ -73,6 +73,20 @@ class Edges(Sequence[Told]):
         """The edges alone, in the store's units."""
         return map(Edge, *self.told())
 
+    def some(self, places: Sequence[int]) -> "Edges":
+        """The edges in these places."""
+        numpy = numpy_for(len(places), A_FEW)
+        if numpy is None:
+            columns = [array(it.typecode, map(it.__getitem__, places)) for it in self._columns]
+        else:
+            columns = [array(it.typecode, numpy.asarray(it)[places].tobytes()) for it in self._columns]
+        return Edges(self.kinds, self.names, self.units, columns)
+
+    @property
+    def marks(self) -> "Sequence[ReadOnlyArray]":
+        """The weights and both times."""
+        return self.weight, self.first, self.recent
+
     def told(self) -> "List[Sequence[Any]]":
         """The weights and both times in the store's units, by column."""
         return [self.units.all_weights_to_user(self.weight), self.units.all_times_to_user(self.first),
@@ -88,24 +102,41 @@ class Edges(Sequence[Told]):
         """The edges as a pandas frame of your own: kind, source, target, weight, first, recent. Decimal weights are objects,
         which pandas can't sum as numbers, unless the store has `decimals="float"`."""
         numpy, pandas = needed("numpy", "a frame"), needed("pandas", "a frame")
-        found: Dict[str, Any] = {}
-        for name, numbers, texts in (("kind", self.kind, self.kinds), ("source", self.source, self.names),
-                                     ("target", self.target, self.names)):
-            found[name] = numpy.array([*texts, None], dtype=object)[:-1][numpy.asarray(numbers)]
-        weights, times = self.units.all_weights_to_user(self.weight), {"first": self.first, "recent": self.recent}
-        found["weight"] = numpy.asarray(weights).astype("int64") if weights is self.weight else list(weights)
-        found.update((name, self._times_of_frame(numpy.asarray(it).astype("int64"))) for name, it in times.items())
+        found = {name: self.named(name) for name in HEADER[:3]}
+        for name in Edge._fields:
+            found[name] = self.of_frame(name, numpy.asarray(self.columns[name]).astype("int64"))
         return pandas.DataFrame(found)  # (without `columns`, which has pandas make objects of the dates)
 
-    def _times_of_frame(self, times: Any) -> Any:
-        """A frame's column of an array of times. A date that pandas doesn't have as a number makes all of them objects."""
-        if not self.units.has_dates:
-            return times
+    def named(self, name: str) -> Any:
+        """The names of a column, kind, source or target, as an array of numpy."""
+        numpy = needed("numpy", "an array")
+        names = numpy.array([*(self.kinds if name == "kind" else self.names), None], dtype=object)
+        return names[numpy.asarray(self.columns[name])]
+
+    def of_frame(self, name: str, numbers: Any, is_there: Any = None) -> Any:
+        """A frame's column of weights or times, which are whole numbers here; empty where one isn't there. A date that pandas
+        doesn't have as a number makes all of them objects."""
+        if is_there is not None and not is_there.any():
+            return needed("numpy", "a frame").full(len(numbers), None, dtype=object)
+        has_gaps = is_there is not None and not is_there.all()
+        if name != "weight" and self.units.has_dates:
+            return self._dates_of_frame(numbers, is_there if has_gaps else None)
+        if name == "weight" and self.units.weight_scale != 1:
+            told: Any = self.units.all_weights_to_user(numbers.tolist())
+            return list(told) if not has_gaps else [it if there else None for it, there in zip(told, is_there.tolist())]
+        if has_gaps:
+            numbers = numbers.astype("float64")
+            numbers[~is_there] = float("nan")
+        return numbers
+
+    def _dates_of_frame(self, times: Any, is_there: Any) -> Any:
         pandas = needed("pandas", "a frame")
         try:
-            return pandas.to_datetime(times, unit="us", utc=True)
+            dates = pandas.to_datetime(times, unit="us", utc=True)
+            return dates if is_there is None else dates.where(is_there)
         except pandas.errors.OutOfBoundsDatetime:
-            return list(self.units.all_times_to_user(times.tolist()))
+            told = self.units.all_times_to_user(times.tolist())
+            return list(told) if is_there is None else [it if there else None for it, there in zip(told, is_there.tolist())]
 
     def to_networkx(self, **about: Any) -> "networkx.MultiDiGraph":
         """The edges as a networkx graph, with every name as a node, in order. An edge's key is its kind; it has the attributes
@@ -140,11 +171,14 @@ class Edges(Sequence[Told]):
 
     def to_csv(self, path: Path) -> int:
         """Writes the edges as CSV in UTF-8 with a header, and gives how many they are. See `Session.to_csv`."""
+        kinds, names = fields_of_csv(self.kinds), fields_of_csv(self.names)
         with whole_text(path) as file:
-            write = csv.writer(file, lineterminator="\n").writerow
-            write(HEADER)
-            for *ends, edge in self:
-                write((*ends, edge.weight, *map(_time_text, edge[1:])))
+            file.write(",".join(HEADER) + "\n")
+            for at in range(0, len(self), WRITTEN_AT_ONCE):
+                kind, source, target, weight, first, recent = (it[at:at + WRITTEN_AT_ONCE] for it in self._columns)
+                columns = (map(kinds.__getitem__, kind), map(names.__getitem__, source), map(names.__getitem__, target),
+                           self.units.weights_as_text(weight), *map(self.units.times_as_text, (first, recent)))
+                file.write("\n".join([*map(",".join, zip(*columns)), ""]))
         return len(self)
 
     def top(self, count: int = 10, by: str = "weight") -> List[Told]:
@@ -168,80 +202,3 @@ class Edges(Sequence[Told]):
         """How many there are, and the edges; of many the first and the last ones."""
         shown = cut(len(self), lambda first, end: list(map(repr, self[first:end])), "edges")[0]
         return f"<{self._size}: {shown}>" if shown else f"<{self._size}>"
-
-
-class Changed(NamedTuple):
-    """An edge that has another weight or time: as it was, and as it is."""
-
-    kind: str
-    source: str
-    target: str
-    before: Any
-    after: Any
-
-
-class Diff:
-    """What became of the edges from one version to another: those that are `gone` and those that are `new`, as `Edges`, and those
-    that `changed`, as `Edges` of the earlier version (`before`) and of the later one (`after`), in the same order."""
-
-    def __init__(self, earlier: Edges, later: Edges) -> None:
-        kinds = {name: at for at, name in enumerate(earlier.kinds)}
-        names = {name: at for at, name in enumerate(earlier.names)}
-        of_kinds = [kinds.setdefault(it, len(kinds)) for it in later.kinds]
-        of_names = [names.setdefault(it, len(names)) for it in later.names]
-        left = {key: at for at, key in enumerate(zip(earlier.kind, earlier.source, earlier.target))}
-        keys = zip(map(of_kinds.__getitem__, later.kind), map(of_names.__getitem__, later.source),
-                   map(of_names.__getitem__, later.target))
-        pairs = [(left.pop(key, -1), at) for at, key in enumerate(keys)]
-        before, after = (list(zip(it.weight, it.first, it.recent)) for it in (earlier, later))
-        changed = [(old, at) for old, at in pairs if old >= 0 and before[old] != after[at]]
-        self.gone = _some(earlier, sorted(left.values()))
-        self.new = _some(later, [at for old, at in pairs if old < 0])
-        self.before, self.after = _some(earlier, [old for old, _ in changed]), _some(later, [at for _, at in changed])
-
-    @property
-    def changed(self) -> List[Changed]:
-        """The edges that have another weight or time."""
-        return [Changed(kind, source, target, before, after)
-                for (kind, source, target, before), after in zip(self.before, self.after.edges())]
-
-    def counts(self) -> Dict[str, int]:
-        """How many edges are gone, new and changed."""
-        return {"gone": len(self.gone), "new": len(self.new), "changed": len(self.after)}
-
-    def frame(self) -> "pandas.DataFrame":
-        """All of them as a pandas frame: what became of an edge (gone, new or changed), its kind, source and target, and its
-        weight and times before and after, empty where it wasn't there."""
-        pandas = needed("pandas", "a frame")
-        return pandas.DataFrame(self._rows(slice(None), None), columns=DIFF_HEADER)
-
-    def _rows(self, some: slice, nothing: Any) -> List[Any]:
-        """Rows of a frame, of each state those in these places."""
-        rows: List[Any] = [("gone", *ends, *edge, *(nothing,) * 3) for *ends, edge in self.gone[some]]
-        rows += [("new", *ends, *(nothing,) * 3, *edge) for *ends, edge in self.new[some]]
-        return rows + [("changed", *ends, *edge, *after) for (*ends, edge), after in zip(
-            self.before[some], self.after[some].edges())]
-
-    def __bool__(self) -> bool:
-        """Whether there is any difference."""
-        return any(self.counts().values())
-
-    @property
-    def _size(self) -> str:
-        return ", ".join(f"{count:,} {state}" for state, count in self.counts().items())
-
-    def _repr_html_(self) -> str:
-        """What a notebook shows: the first rows of each, and how many there are."""
-        return rows_as_html(DIFF_HEADER, self._rows(slice(ROWS_SHOWN), ""), self._size)
-
-    def __repr__(self) -> str:
-        return f"<Diff: {self._size}>"
-
-
-def _some(edges: Edges, places: Sequence[int]) -> Edges:
-    columns = [array(it.typecode, map(it.__getitem__, places)) for it in edges._columns]
-    return Edges(edges.kinds, edges.names, edges.units, columns)
-
-
-def _time_text(time: Any) -> str:
-    return time.isoformat() if isinstance(time, datetime) else str(time)

@@ -1,6 +1,9 @@
 """Many fields of text at once: as places in their bytes, of which numpy reads names and numbers without a text for each."""
 from __future__ import annotations
 
+import csv
+import io
+import re
 import sys
 from array import array
 from typing import Any, Callable, Iterator, List, Optional, Sequence, overload
@@ -8,6 +11,7 @@ from typing import Any, Callable, Iterator, List, Optional, Sequence, overload
 # From how many items on numpy is worth to be loaded; how many bytes a field may have that is compared in words of eight; and by
 # what a word is multiplied before the next one is mixed in.
 MANY, MOST_BYTES, MIX = 50_000, 64, 0x9E37_79B9_7F4A_7C15
+_TO_BE_QUOTED = re.compile(r'[",\r\n]')
 
 
 def numpy_for(count: int, where_loaded: Optional[int] = None) -> Any:
@@ -103,13 +107,31 @@ class Fields(Sequence[str]):
         return array(code, numpy.where(is_less, -found, found).tobytes())
 
 
+def fields_of_csv(texts: Sequence[str]) -> Sequence[str]:
+    """Texts as fields of CSV, as Python's `csv` writes them: within quotes where they have to be."""
+    if not _TO_BE_QUOTED.search("".join(texts)):
+        return texts
+    return [_field_of_csv(it) if _TO_BE_QUOTED.search(it) else it for it in texts]
+
+
+def _field_of_csv(text: str) -> str:
+    line = io.StringIO()
+    csv.writer(line, lineterminator="\n").writerow((text, ""))
+    return line.getvalue()[:-2]
+
+
+def data_of(numpy: Any, text: str) -> Any:
+    """The bytes of a text in ASCII, as `Fields` reads them: with room behind the last one."""
+    return numpy.frombuffer(text.encode("ascii") + bytes(MOST_BYTES + 8), dtype="uint8")
+
+
 def fields_of(text: str, sign: str, width: int) -> Optional[List[Fields]]:
     """The columns of a text's lines, of which each ends in a line feed and has so many fields; none where one has more or less.
     `None` where the text isn't plain ASCII, and where numpy isn't there, or isn't worth to be loaded."""
     numpy = numpy_for(len(text)) if text.isascii() else None
     if numpy is None:
         return None
-    data = numpy.frombuffer(text.encode("ascii") + bytes(MOST_BYTES + 8), dtype="uint8")
+    data = data_of(numpy, text)
     ends = numpy.flatnonzero((data == ord(sign)) | (data == ord("\n")))
     signs = numpy.frombuffer((sign * (width - 1) + "\n").encode("ascii"), dtype="uint8")
     if len(ends) % width or (data[ends].reshape(-1, width) != signs).any():

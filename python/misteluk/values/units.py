@@ -4,9 +4,10 @@ from __future__ import annotations
 import re
 from array import array
 from datetime import date, datetime, timezone
-from decimal import Decimal, InvalidOperation
+from decimal import Context, Decimal, InvalidOperation
 from fractions import Fraction
-from typing import Any, Callable, NamedTuple, Optional, Sequence, Union
+from functools import lru_cache
+from typing import Any, Callable, Iterable, NamedTuple, Optional, Sequence, Union
 
 from . import records
 from .answers import Edge
@@ -21,6 +22,8 @@ HALF_EVEN = "half-even"
 _DECIMAL = re.compile(r"[-+]?(?:[0-9]+\.?[0-9]*|\.[0-9]+)(?:[eE]([-+]?[0-9]+))?")
 # How many signs a number may have that is looked at: a longer one is beyond every limit, and takes long.
 MOST_SIGNS = 400
+# What shifts a weight's decimals, of which none has more digits: 2^40 parts of 2^-40.
+_EXACT = Context(prec=64)
 
 
 def _decimal(text: str) -> Decimal:
@@ -34,6 +37,7 @@ def _decimal(text: str) -> Decimal:
     raise ValueError("a weight is a decimal number")
 
 
+@lru_cache(maxsize=None)
 def _places_of(scale: int) -> Optional[int]:
     """How many decimal places a part of so many has: 2 for a hundredth, 3 for an eighth; `None` where they have no end."""
     return next((it for it in range(64) if 10 ** it % scale == 0), None)
@@ -142,8 +146,7 @@ class Units(NamedTuple):
         if self.decimals == "float":
             return weight / self.weight_scale
         places = _places_of(self.weight_scale) or 0
-        parts = abs(weight) * 10 ** places // self.weight_scale
-        return Decimal((int(weight < 0), tuple(map(int, str(parts))), -places))
+        return _EXACT.scaleb(Decimal(weight * 10 ** places // self.weight_scale), -places)
 
     def time_to_user(self, time: int) -> Any:
         return time if self.times == NUMBER else EPOCH + MICROSECOND * time
@@ -153,6 +156,14 @@ class Units(NamedTuple):
 
     def all_times_to_user(self, times: Sequence[int]) -> Sequence[Any]:
         return times if self.times == NUMBER else each_once(self.time_to_user, times)
+
+    def weights_as_text(self, weights: Sequence[int]) -> "Iterable[str]":
+        """Weights as they are printed."""
+        return map(str, weights) if self.weight_scale == 1 else each_once(lambda it: str(self.weight_to_user(it)), weights)
+
+    def times_as_text(self, times: Sequence[int]) -> "Iterable[str]":
+        """Times as they are printed: numbers, or dates as `datetime.isoformat` has them."""
+        return map(str, times) if self.times == NUMBER else each_once(lambda it: str(self.time_to_user(it).isoformat()), times)
 
     @property
     def weights_told(self) -> "Optional[Callable[[Sequence[int]], Sequence[Any]]]":
