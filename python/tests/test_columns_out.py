@@ -22,7 +22,8 @@ from misteluk.values.units import Units
 numpy, pandas = optional("numpy"), optional("pandas")
 HAVE_NUMPY = unittest.skipUnless(numpy, "numpy is not there")
 NAMES = ("a", 'q"1', "c,2", "~~x", "#", "n", "m", "o", "p", "r", "s")
-UNITS = (Units(), Units(weight_scale=100), Units(weight_scale=8, times="iso"), Units(weight_scale=100, decimals="float", times="iso"))
+UNITS = (Units(), Units(weight_scale=100), Units(weight_scale=8, times="iso"),
+         Units(weight_scale=100, decimals="float", times="iso"))
 
 
 @contextmanager

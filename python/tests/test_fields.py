@@ -45,8 +45,8 @@ class OfAFile(Case):
         """Also where the quick way is taken for some of the lines alone, and where a text ends amid them."""
         made = random.Random(3)
         quick = []
-        with mock.patch.object(fields.Fields, "numbered", lambda self, of, real=fields.Fields.numbered: (
-                quick.append(1), real(self, of))[1]):
+        with mock.patch.object(fields.Fields, "numbered", lambda self, *of, real=fields.Fields.numbered: (
+                quick.append(1), real(self, *of))[1]):
             for _ in range(120):
                 some = [*made.choices(RIGHT, k=made.randrange(1, 9)), *made.choices(STRANGE, k=made.choice((0, 0, 1, 2)))]
                 made.shuffle(some)

@@ -12,7 +12,6 @@ from typing import Any, Callable, DefaultDict, Dict, Iterable, List, NamedTuple,
 
 from ..errors import Place
 from ..values import records
-from ..values.fields import Fields
 
 # What an operation does, as the C interface numbers it; and the commands of records, by that number.
 INSERT, ADD, REMOVE, EXPIRE = range(4)
@@ -41,8 +40,6 @@ class Dictionary:
 
     def column(self, names: Sequence[str]) -> "array[int]":
         """The numbers of names."""
-        if isinstance(names, Fields):
-            return names.numbered(self.column)
         if not names or names[0] == names[-1] and names.count(names[0]) == len(names):
             return array("I", [self.numbers[it] for it in names[:1]]) * len(names)
         return array("I", itemgetter(*names)(self.numbers))

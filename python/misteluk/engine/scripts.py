@@ -26,7 +26,8 @@ class Records:
         of_kinds, of_names = self._kinds.__getitem__, self._names.__getitem__
         fields = map(of_kinds, kinds), map(of_names, sources), map(of_names, targets), weights, times
         if codes.count(INSERT) == len(codes):  # (as nearly all are)
-            return "".join([f"i,{kind},{source},{target},{weight},{time}\n" for kind, source, target, weight, time in zip(*fields)])
+            return "".join([f"i,{kind},{source},{target},{weight},{time}\n"
+                            for kind, source, target, weight, time in zip(*fields)])
         return "".join([FORMS[code].format(*row) for code, *row in zip(codes, *fields)])
 
 

@@ -10,6 +10,7 @@ from typing import Generator, Iterable, Iterator, List, Mapping, Optional, Seque
 from . import feed as feeds
 from ..errors import FeedFault, LeftOut
 from .feed import Block, Came, Column, Columns, Feed, Path, Table, TableForm, feed_name, open_text, parts_of
+from ..values.columns import Same
 from ..values.fields import fields_of
 
 # How many characters of a file are read at once.
@@ -148,7 +149,7 @@ class Picked:
 
     def of_columns(self, lines: Sequence[int], columns: Union[Sequence[Sequence[str]], Mapping[int, Sequence[str]]]) -> Block:
         self.is_first = False
-        return Block(lines, *([usual] * len(lines) if place is None else columns[place]
+        return Block(lines, *(Same(usual, len(lines)) if place is None else columns[place]
                               for place, usual in zip(self.places, self.usual)))
 
     def of_rows(self, rows: Sequence[Tuple[Sequence[str], int]]) -> Iterator[Block]:

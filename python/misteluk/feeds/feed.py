@@ -11,6 +11,7 @@ from typing import (IO, Any, Callable, Iterable, Iterator, List, NamedTuple, Opt
                     overload)
 
 from ..errors import FeedFault
+from ..values.columns import FieldColumn
 from ..values.units import each_once
 
 # Where a row stands (a line of a file, or a row's number from 1), and its kind, source, target, weight and time as texts.
@@ -71,6 +72,10 @@ class Block(NamedTuple):
     times: Sequence[Any]
     # The rows as they came; none where they came as they are here.
     came: Sequence[Sequence[str]] = ()
+
+    def plain(self) -> "Block":
+        """The same with a text for each field."""
+        return Block._make(it.texts if isinstance(it, FieldColumn) else it for it in self)
 
 
 def rows_of(block: Block) -> Iterator[Row]:

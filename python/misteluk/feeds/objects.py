@@ -11,8 +11,10 @@ from .delimited import Picked, warn_of_unread
 from ..errors import FeedFault, LeftOut
 from .feed import USUAL_KIND, Block, Columns, Feed, Row, Table, parts_of
 from ..values import texts
+from ..values.given import given
 
-# What holds bytes, which are no text.
+# How many rows of whole columns are taken at once; and what holds bytes, which are no text.
+GIVEN_AT_ONCE = 1 << 16
 BYTES = (bytes, bytearray, memoryview)
 
 
@@ -55,8 +57,8 @@ def _reason_against(kind: type) -> str:
     return ""
 
 
-def _column(name: str, values: Any) -> List[Any]:
-    """The values of a column. Raises `FeedFault` where it isn't one value after another."""
+def _column(name: str, values: Any) -> Any:
+    """The values of a column, as an array or a list. Raises `FeedFault` where it isn't one value after another."""
     told = f"columns: the column {name!r} is"
     if isinstance(values, (str, *BYTES, Mapping, AbstractSet)) or not isinstance(values, Iterable):
         raise FeedFault(f"{told} {type(values).__name__}, {reprlib.repr(values)}: give a list or array, which has a value for "
@@ -65,7 +67,7 @@ def _column(name: str, values: Any) -> List[Any]:
     dimensions = getattr(values, "ndim", 1)
     if dimensions != 1:
         raise FeedFault(f"{told} an array of {dimensions} dimensions: give each column by itself, as array[:, 0]")
-    return values_of(values)
+    return values if hasattr(values, "dtype") or isinstance(values, list) else list(values)
 
 
 def must_not_be_masked(values: Any, told: str) -> None:
@@ -122,7 +124,7 @@ def _warn_of_idle(names: Sequence[str]) -> None:
 def from_pandas(frame: Any, columns: Columns = Columns()) -> Feed:
     """A pandas frame. A row with a missing value (`None`, NaN, NaT, NA) in one of the columns is a bad row."""
     names = [str(it) for it in frame.columns]
-    return Feed("frame", Table(lambda: _blocks("frame", columns, names, lambda at: values_of(frame.iloc[:, at]), len(frame))))
+    return Feed("frame", Table(lambda: _blocks("frame", columns, names, lambda at: frame.iloc[:, at], len(frame))))
 
 
 def from_columns(table: Mapping[str, Iterable[Any]], columns: Columns = Columns()) -> Feed:
@@ -134,12 +136,19 @@ def from_columns(table: Mapping[str, Iterable[Any]], columns: Columns = Columns(
     return Feed("columns", Table(lambda: _blocks("columns", columns, list(found), values.__getitem__, len([*values, []][0]))))
 
 
-def _blocks(feed: str, columns: Columns, names: List[str], column: Callable[[int], List[Any]], size: int) -> Iterator[Block]:
+def _blocks(feed: str, columns: Columns, names: List[str], column: Callable[[int], Any], size: int) -> Iterator[Block]:
     """The rows of columns that have so many values each; `column` gives them by place."""
     picked = Picked(feed, columns, names)
     if size and len(names) < picked.least:
         raise FeedFault(f"{feed}:1: {len(names)} fields, where the columns need {picked.least}")
-    taken = {place: column(place) for place in picked.places if place is not None} if size else {}
+    places = [place for place in picked.places if place is not None] if size else []
+    wholes = {place: given(column(place), lambda some, begin: texts_of(values_of(some), feed, begin)) for place in places}
+    if None not in wholes.values():
+        for at in range(0, size, GIVEN_AT_ONCE):
+            rows = slice(at, min(at + GIVEN_AT_ONCE, size))
+            yield picked.of_columns(range(at + 1, rows.stop + 1), {place: it[rows] for place, it in wholes.items() if it})
+        return
+    taken = {place: values_of(column(place)) for place in places}
     for at in range(0, size, feeds.ROWS_AT_ONCE):
         end = min(at + feeds.ROWS_AT_ONCE, size)
         yield picked.of_columns(range(at + 1, end + 1), {place: texts_of(it[at:end], feed, at + 1)

@@ -5,13 +5,13 @@ import time
 from array import array
 from collections import Counter
 from dataclasses import dataclass
-from functools import cached_property
+from functools import cached_property, partial
 from itertools import compress, repeat
 from operator import lshift, or_, rshift
 from typing import Any, Dict, Iterable, Iterator, List, NamedTuple, Optional, Sequence, Set, Tuple
 
 from .advice import advise, as_written
-from .feed import Block, Path, came_of, rows_of, turned
+from .feed import ROWS_AT_ONCE, Block, Path, came_of, part_of, rows_of, turned
 from .opening import ReadAs, reads
 from .progress import Progress, no_collection
 from .rejects import Bin, Rejected, Rejects, rejected
@@ -19,6 +19,7 @@ from .spans import shown_length
 from ..engine.operations import COMMANDS as OF_COMMANDS, Dictionary, Numbered, Operations
 from ..errors import BadTime, Place, Refused
 from ..values import records
+from ..values.columns import FieldColumn
 from ..values.terms import Terms
 from ..values.units import Units
 
@@ -227,37 +228,64 @@ class Count:
         # Where rows are kept that can't be taken, and how far ahead of the clock a row may be, in microseconds.
         self.bin: Optional[Bin] = None
         self.ahead: Optional[int] = None
+        # Another one whenever numbers of names aren't the same any more.
+        self._whose = object()
 
     def _empty(self) -> Part:
         columns: Any = map(array, "BIIIqQ")
         return Part(Numbered._make([*columns, self.of_kinds, self.of_names]), array("q"))
 
     def take(self, block: Block) -> None:
-        """Counts rows, and puts those that can be taken into batches of `batch`."""
-        weights, times = self.terms.units.weights_of(block.weights), self.terms.units.times_of(block.times)
-        columns = None if None in weights or None in times else self._numbered(block)
+        """Counts rows, and puts those that can be taken into batches of `batch`: all at once, or a few at a time where some are
+        seen to be wrong."""
+        if self._take_at_once(block):
+            return
+        if len(block.lines) > ROWS_AT_ONCE:
+            for at in range(0, len(block.lines), ROWS_AT_ONCE):
+                self.take(part_of(block, slice(at, at + ROWS_AT_ONCE)))
+            return
+        block = self.written(block.plain())
+        names = map(self.of_names.column, (block.sources, block.targets))
+        self._fill(block.lines, (self.of_kinds.column(block.kinds), *names, block.weights, block.times))
+
+    def _take_at_once(self, block: Block) -> bool:
+        """Whether rows were taken, of which each is seen to be right as it stands."""
+        units = self.terms.units
+        weights = block.weights.weights(units) if isinstance(block.weights, FieldColumn) else units.weights_of(block.weights)
+        times = block.times.times(units) if isinstance(block.times, FieldColumn) else units.times_of(block.times)
+        is_right = not any(it is None or not isinstance(it, array) and None in it for it in (weights, times))
+        columns = self._numbered(block) if is_right else None
         if columns is not None:
             self.rows += len(block.lines)
-        else:
-            block = self.written(block)
-            weights, times = block.weights, block.times
-            columns = self._columns(block)
-        self._fill(block.lines, (*columns, weights, times))
+            self._fill(block.lines, (*columns, weights, times))
+        return columns is not None
 
-    def _columns(self, block: Block) -> "Tuple[array[int], array[int], array[int]]":
-        names = self.of_names.column
-        return self.of_kinds.column(block.kinds), names(block.sources), names(block.targets)
-
-    def _numbered(self, block: Block) -> "Optional[Tuple[array[int], array[int], array[int]]]":
-        """The numbers of rows' kinds, sources and targets, where each is seen to be the engine's name as it stands."""
+    def _numbered(self, block: Block) -> "Optional[List[array[int]]]":
+        """The numbers of rows' kinds, sources and targets, where each is a name."""
         kinds, names = len(self.of_kinds.numbers), len(self.of_names.numbers)
-        found = self._columns(block)
-        new = [*self.of_kinds.since(kinds), *self.of_names.since(names)]
+        found: "List[array[int]]" = []
+        for dictionary, column, is_kind in ((self.of_kinds, block.kinds, True), (self.of_names, block.sources, False),
+                                            (self.of_names, block.targets, False)):
+            numbers_of = partial(self._numbers_of, dictionary, is_kind)
+            numbers = column.numbered(numbers_of, self._whose) if isinstance(column, FieldColumn) else numbers_of(column)
+            if numbers is None:
+                self.of_kinds.forget_since(kinds)
+                self.of_names.forget_since(names)
+                self._whose = object()  # (numbers that were given since are those of other names from now on)
+                return None
+            found.append(numbers)
+        return found
+
+    def _numbers_of(self, dictionary: Dictionary, is_kind: bool, texts: Sequence[str]) -> "Optional[array[int]]":
+        """The numbers of names, or kinds, where each is one."""
+        before = len(dictionary.numbers)
+        found = dictionary.column(texts)
+        new = dictionary.since(before)
         if not new or self.terms.are_as_they_are(new):
             return found
-        self.of_kinds.forget_since(kinds)
-        self.of_names.forget_since(names)
-        return None
+        dictionary.forget_since(before)
+        names = self.terms.names_of(texts, is_kind)
+        return None if "" in names else dictionary.column(names)
 
     def _fill(self, lines: Sequence[int], columns: Sequence[Any]) -> None:
         """Puts rows into batches."""
@@ -360,8 +388,10 @@ def survey(data: Any, *, by: str, batch: Optional[int] = None, progress: Optiona
     counter.bin = None if kept is None else Bin()
     with no_collection():
         for block in feed.blocks():
-            counter.take(block)
-            counter.write_wrong(kept)
+            try:
+                counter.take(block)
+            finally:
+                counter.write_wrong(kept)
             told.step(len(block.lines))
     told.end()
     advise(counter.faults, how.reading(data, terms.units))

@@ -11,7 +11,7 @@ SECOND, DAY = 10 ** 6, 86_400 * 10 ** 6
 FORM = "a time is a date here, as 2024-05-01 or 2024-05-01T12:00:00.250+02:00 (times='iso')"
 _EPOCH = datetime(1970, 1, 1)
 _FIRST_DAY = _EPOCH.toordinal()
-_END = (date(9999, 12, 31).toordinal() + 1 - _FIRST_DAY) * DAY
+END = (date(9999, 12, 31).toordinal() + 1 - _FIRST_DAY) * DAY
 _HOUR, _SIXTIETH = r"(?:[01]\d|2[0-3])", r"[0-5]\d"
 _DATE = re.compile(rf"(\d{{4}}-\d\d-\d\d)(?:[T ]({_HOUR}):({_SIXTIETH})(?::({_SIXTIETH})(?:[.,](\d+))?)?)?"
                    rf"(?:Z|([+-])({_HOUR}):({_SIXTIETH}))?", re.A)
@@ -41,7 +41,7 @@ def microseconds_of(text: str, *, is_end: bool = False) -> int:
         time += DAY - 1
     if time < 0:
         raise ValueError("a date is not before 1970")
-    if time >= _END:
+    if time >= END:
         raise ValueError("a date is in the years 1970 to 9999")
     return time
 

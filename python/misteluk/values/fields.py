@@ -6,7 +6,12 @@ import io
 import re
 import sys
 from array import array
-from typing import Any, Callable, Iterator, List, Optional, Sequence, overload
+from typing import TYPE_CHECKING, Any, Iterator, List, Optional, Sequence
+
+from .columns import FieldColumn, NumbersOf, whole
+
+if TYPE_CHECKING:
+    from .units import Units
 
 # From how many items on numpy is worth to be loaded; how many bytes a field may have that is compared in words of eight; and by
 # what a word is multiplied before the next one is mixed in.
@@ -27,7 +32,7 @@ def numpy_for(count: int, where_loaded: Optional[int] = None) -> Any:
     return numpy
 
 
-class Fields(Sequence[str]):
+class Fields(FieldColumn):
     """A column of fields within one text: the texts, once somebody goes through them, and else where each begins and ends."""
 
     def __init__(self, text: str, data: Any, begins: Any, ends: Any) -> None:
@@ -47,21 +52,16 @@ class Fields(Sequence[str]):
     def __len__(self) -> int:
         return len(self._begins)
 
-    def __iter__(self) -> Iterator[str]:
-        return iter(self.texts)
+    def some(self, rows: slice) -> "Fields":
+        return Fields(self._text, self._data, self._begins[rows], self._ends[rows])
 
-    @overload
-    def __getitem__(self, at: int) -> str: ...
+    def weights(self, units: "Units") -> "Optional[array[int]]":
+        return whole(units.weights_of(self))
 
-    @overload
-    def __getitem__(self, at: slice) -> "Fields": ...
+    def times(self, units: "Units") -> "Optional[array[int]]":
+        return whole(units.times_of(self))
 
-    def __getitem__(self, at: Any) -> Any:
-        if isinstance(at, slice):
-            return Fields(self._text, self._data, self._begins[at], self._ends[at])
-        return self.texts[at]
-
-    def numbered(self, numbers_of: "Callable[[Sequence[str]], array[int]]") -> "array[int]":
+    def numbered(self, numbers_of: NumbersOf, of: object = None) -> "Optional[array[int]]":
         """The number of each field, where those of texts are given; texts that are the same are asked for once."""
         import numpy
         length = self._ends - self._begins
@@ -75,7 +75,12 @@ class Fields(Sequence[str]):
         _, first, same = numpy.unique(mixed, return_index=True, return_inverse=True)
         if any((it[first][same] != it).any() for it in keys):  # (two texts were mixed to one number)
             return numbers_of(self.texts)
-        numbers = numpy.asarray(numbers_of(self._texts_at(first)))
+        order = numpy.argsort(first)  # (the one in which they came)
+        found = numbers_of(self._texts_at(first[order]))
+        if found is None:
+            return None
+        numbers = numpy.empty(len(order), dtype="uint32")
+        numbers[order] = numpy.asarray(found)
         return array("I", numbers[same].tobytes())
 
     def _words(self, length: Any) -> Iterator[Any]:

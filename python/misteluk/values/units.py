@@ -80,6 +80,11 @@ class Units(NamedTuple):
     def has_dates(self) -> bool:
         return self.times == ISO
 
+    @property
+    def is_decimal(self) -> bool:
+        """Whether a part has so many decimals, and all numbers with as many are whole numbers of parts."""
+        return bool(self.weight_scale == 10 ** (_places_of(self.weight_scale) or 0))
+
     def same_as(self, other: "Units") -> bool:
         """Whether the program's numbers mean the same; how decimals are shown is apart."""
         return self[:2] == other[:2]
