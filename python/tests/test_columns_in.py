@@ -122,7 +122,8 @@ def right_table(made, has_dates):
     found = {it: made.choice((names, numpy.array(names), numpy.arange(ROWS) % 7, pandas.Series(names, dtype="category")))
              for it in ("source", "target", "kind")}
     weights = [made.randrange(-9, 9) for _ in range(ROWS)]
-    found["weight"] = made.choice((weights, numpy.array(weights, dtype="f8"), list(map(Decimal, weights)), list(map(str, weights))))
+    found["weight"] = made.choice((weights, numpy.array(weights, dtype="f8"), list(map(Decimal, weights)),
+                                   list(map(str, weights))))
     found["time"] = made.choice((moments_of(made), numpy.array(moments_of(made), dtype="datetime64[ms]"))) if has_dates else \
         made.choice(([made.randrange(9) for _ in range(ROWS)], numpy.arange(ROWS, dtype="f8")))
     return found
@@ -130,8 +131,9 @@ def right_table(made, has_dates):
 
 def table(made):
     """A table whose columns are mostly of the forms that are right there."""
-    found = {it: numpy.array(whole_numbers(made)) if made.random() < 0.3 else numpy.array(texts(made)) for it in ("source", "target")}
-    found["kind"] = made.choice((["k"] * ROWS, [made.choice("kl") for _ in range(ROWS)], pandas.Series(["m"] * ROWS, dtype="category")))
+    found = {it: numpy.array((whole_numbers if made.random() < 0.3 else texts)(made)) for it in ("source", "target")}
+    found["kind"] = made.choice((["k"] * ROWS, [made.choice("kl") for _ in range(ROWS)],
+                                 pandas.Series(["m"] * ROWS, dtype="category")))
     found["weight"] = made.choice((whole_numbers, amounts, decimals))(made)
     found["time"] = made.choice((lambda: [made.randrange(99) for _ in range(ROWS)], lambda: dates_of_numpy(made),
                                  lambda: moments(made)))()
@@ -192,7 +194,8 @@ class Tables(Case):
     def test_they_are_taken_at_once(self):
         """No text is made of rows that are right: only of each name."""
         count, asked = 3_000, []
-        data = {"source": numpy.arange(count) % 70, "target": pandas.Series([f"t{it % 9}" for it in range(count)], dtype="category"),
+        targets = pandas.Series([f"t{it % 9}" for it in range(count)], dtype="category")
+        data = {"source": numpy.arange(count) % 70, "target": targets,
                 "kind": ["k"] * count, "weight": numpy.arange(count) / 100,
                 "time": numpy.arange(count).astype("datetime64[s]")}
         with mock.patch.object(objects, "texts_of", lambda *it, real=objects.texts_of: (asked.append(len(it[0])), real(*it))[1]):

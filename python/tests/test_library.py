@@ -12,6 +12,7 @@ import subprocess
 import sys
 import threading
 import unittest
+from contextlib import ExitStack
 from unittest import mock
 
 from support import HERE, Case
@@ -92,6 +93,31 @@ class InProcess(Case):
             store.insert("m", "z" * 64, "a")
             store.commit()
             self.assertEqual((list(store.open().degrees())[-2:], sizes.call_count), ([names[-1], "z" * 64], 1))
+
+    def test_tables_are_kept(self):
+        """A question that was asked before costs no call: the latest ones, up to so many bytes, or the last one alone."""
+        store = self.store("insert k a b 1 1", "insert l b c 2 9", seats=3)
+        session, library = store.open(), store.engine.library
+        asks = [session.degrees, session.components, session.cores, lambda: session.levels("a"), lambda: session.levels("b"),
+                lambda: session.degrees("k"), lambda: session.components(since=5), lambda: session.cores("l", 2, 9)]
+        calls = [mock.patch.object(library, f"version_{it}", mock.Mock(side_effect=getattr(library, f"version_{it}")))
+                 for it in ("degrees", "labels", "cores", "levels")]
+        with ExitStack() as stack:
+            counted = [stack.enter_context(it) for it in calls]
+            wanted = [it().dict() for it in asks]
+            for _ in range(2):
+                self.assertEqual([it().dict() for it in asks], wanted)
+            self.assertEqual([it.call_count for it in counted], [2, 2, 2, 2])
+            with mock.patch.object(held, "MOST_KEPT", 60):  # (three vertices: 12 bytes, and 48 of degrees)
+                for it in (session.degrees, session.components, session.cores, session.components, session.degrees):
+                    it()
+                self.assertEqual([it.call_count for it in counted], [2, 2, 2, 2])
+                session.levels("c")
+                self.assertEqual(list(map(dict, (session.degrees(), session.components()))), [wanted[0], wanted[1]])
+                self.assertEqual([it.call_count for it in counted], [2, 3, 2, 3])
+            session.close()
+            for it in asks:
+                self.assertRaises(misteluk.SessionClosed, it)
 
     def test_threads_feed_one_store(self):
         store = self.store()

@@ -141,8 +141,13 @@ def fill(library: Library, raw: interface.Batch, batch: Operations) -> None:
 
 def _fill_at_once(library: Library, raw: interface.Batch, columns: Numbered) -> None:
     """The same by a call for all, which have room in the batch."""
+    append: Any = library.batch_columns_within
+    check(append(raw, MOST_AT_ONCE, *places_of(columns), c_uint64()))
+
+
+def places_of(columns: Numbered) -> List[Any]:
+    """Where the columns of operations stand, as a call takes them: both dictionaries, each a text and where its names end, and
+    then what each does, the numbers of kinds, sources and targets, the weights and the times."""
     dictionaries = [(text, len(text), address(ends), len(ends)) for text, ends in (columns.of_kinds.encoded,
                                                                                     columns.of_names.encoded)]
-    places: Any = chain.from_iterable([*dictionaries, *((address(it), len(it)) for it in columns[:6])])
-    append: Any = library.batch_columns_within
-    check(append(raw, MOST_AT_ONCE, *places, c_uint64()))
+    return list(chain.from_iterable([*dictionaries, *((address(it), len(it)) for it in columns[:6])]))

@@ -1,6 +1,7 @@
 """A version that a handle of the library holds, and what it answers."""
 from __future__ import annotations
 
+import threading
 import weakref
 from array import array
 from bisect import bisect_left
@@ -22,6 +23,8 @@ from ..values.records import MOST_NAME
 # What no hold has; how many edges of a vertex are asked for at first; and up to how many names the room for them isn't asked for
 # (there are fewer kinds).
 NO_HOLD, A_ROW, FEW_NAMES = (1 << 64) - 1, 32, 4_096
+# How many bytes of tables a version keeps.
+MOST_KEPT = 64 << 20
 ALL_EDGES = interface.View(WHOLE.since, WHOLE.until, interface.ANY_KIND)
 
 
@@ -66,11 +69,37 @@ class Row:
         self.places: Any = [word for it in (kinds, *others) for word in (c_void_p(address(it)), c_size_t(size))]
 
 
+class Answers:
+    """Tables that were asked for, by what was asked: the latest ones, as long as they have at most `MOST_KEPT` bytes, or the last
+    one."""
+
+    def __init__(self) -> None:
+        self._found: "Dict[object, Sequence[array[int]]]" = {}
+        self._lock = threading.Lock()
+
+    def get(self, asked: object) -> "Optional[Sequence[array[int]]]":
+        with self._lock:
+            found = self._found.pop(asked, None)
+            if found is not None:
+                self._found[asked] = found  # (as the latest one)
+            return found
+
+    def put(self, asked: object, columns: "Sequence[array[int]]") -> None:
+        with self._lock:
+            self._found[asked] = columns
+            sizes = {key: sum(len(it) * it.itemsize for it in found) for key, found in self._found.items()}
+            left = sum(sizes.values())
+            for key in list(sizes)[:-1]:
+                if left > MOST_KEPT:
+                    left -= sizes[key]
+                    del self._found[key]
+
+
 class Kept:
     """What a version keeps from call to call until it is closed: the handles and rows that nobody uses now, and what was asked of
     all. A call takes it once: where the version is closed meanwhile, it ends with what it took, which goes with it."""
 
-    __slots__ = ("idle", "rows", "names", "all", "begins", "by_target", "degrees")
+    __slots__ = ("idle", "rows", "names", "all", "begins", "by_target", "answers")
 
     def __init__(self) -> None:
         self.idle: List[Owned] = []
@@ -79,7 +108,7 @@ class Kept:
         self.all: Optional[Arrays] = None
         self.begins: "Optional[array[int]]" = None
         self.by_target: "Optional[Tuple[Sequence[int], array[int]]]" = None
-        self.degrees: "Optional[Tuple[array[int], array[int], array[int]]]" = None
+        self.answers = Answers()
 
 
 class LibraryVersion:
@@ -212,31 +241,34 @@ class LibraryVersion:
 
     # What it answers.
 
-    def _table(self, call: Any, codes: str, *given: Any) -> "List[array[int]]":
+    def _table(self, call: str, codes: str, scope: Scope, *given: Any) -> "Sequence[array[int]]":
+        """A table of all vertices, which is asked for once as long as it is kept."""
+        answers = self.kept.answers
+        found = answers.get((call, scope, given))
+        if found is None:
+            found = self._new_table(getattr(self._library, f"version_{call}"), codes, self._view(scope), *given)
+            answers.put((call, scope, given), found)
+        self._engine.guard.check()
+        return found
+
+    def _new_table(self, call: Any, codes: str, *given: Any) -> "List[array[int]]":
         columns = [room(it, self.count) for it in codes]
         places = chain.from_iterable((address(it), self.count) for it in columns)
         check(self._ask(call, *given, *places))
         return columns if self.count else [array(it) for it in codes]
 
     def degrees(self, scope: Scope) -> "Tuple[array[int], array[int], array[int]]":
-        kept = self.kept
-        found = kept.degrees
-        if scope == WHOLE and found is not None:
-            self._engine.guard.check()
-            return found
-        out, into, weights = self._table(self._library.version_degrees, "IIq", self._view(scope))
-        if scope == WHOLE:
-            kept.degrees = out, into, weights
+        out, into, weights = self._table("degrees", "IIq", scope)
         return out, into, weights
 
     def labels(self, scope: Scope) -> "array[int]":
-        return self._table(self._library.version_labels, "I", self._view(scope))[0]
+        return self._table("labels", "I", scope)[0]
 
     def cores(self, scope: Scope) -> "array[int]":
-        return self._table(self._library.version_cores, "I", self._view(scope))[0]
+        return self._table("cores", "I", scope)[0]
 
     def levels(self, scope: Scope, source: str) -> "Tuple[Sequence[int], array[int]]":
-        found = self._table(self._library.version_levels, "I", self._view(scope), self._vertex(source))[0]
+        found = self._table("levels", "I", scope, self._vertex(source))[0]
         reached = [at for at, it in enumerate(found) if it != interface.NOT_REACHED]
         return reached, found if len(reached) == len(found) else array("I", map(found.__getitem__, reached))
 
