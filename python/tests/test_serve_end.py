@@ -172,7 +172,7 @@ class Ends(ServeCase):
             last = mock.Mock(return_value=status)
             deadline = ending.Deadline(last)
             seen = mock.Mock()
-            with mock.patch.object(os, "_exit", seen.exit), mock.patch("sys.stdout", seen.out), mock.patch("sys.stderr", seen.err):
+            with mock.patch.object(os, "_exit", seen.exit), mock.patch.multiple(sys, stdout=seen.out, stderr=seen.err):
                 self.assertEqual(deadline.status(), status)
                 deadline._end()
             self.assertEqual(seen.mock_calls, [mock.call.out.flush(), mock.call.err.flush(), mock.call.exit(status)])
