@@ -1,4 +1,5 @@
-"""python -m misteluk load | restore | follow | serve | lint | picture | doctor"""
+# PYTHON_ARGCOMPLETE_OK
+"""python -m misteluk load | restore | follow | serve | view | doctor"""
 import sys
 
 from .command.main import main

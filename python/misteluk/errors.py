@@ -284,6 +284,36 @@ class Missing(StoreError, ImportError):
         super().__init__(f"{what} needs {package}: apt-get install python3-{package}, or pip install {package}")
 
 
+class Form(NamedTuple):
+    """What an error is outside of Python: the status of a server's answer, and that of a command which it ends."""
+
+    error: Type[BaseException]
+    status: int = 400
+    exit_code: int = 1
+
+
+# Each error by its word, which is its name: in answers of a server, in records, and in Python.
+TABLE: Dict[str, Form] = {it.error.__name__: it for it in (
+    *(Form(it) for it in (
+        StoreError, Refused, BadCommand, BadFields, BadName, BadWeight, BadTime, BadSlot, NotOpen, AlreadyOpen, BadWindow,
+        BatchFull, BadRows, OverLimit, Uncommitted, FeedFault, SaveFault, ProgramNotFound, LibraryNotFound, NoServer, Misread,
+        Missing)),
+    *(Form(it, 403) for it in (NotAllowed,)),
+    *(Form(it, 404) for it in (NoKind, NoVertex)),
+    *(Form(it, 409) for it in (BatchLimit, NamesFull, KindsFull, PoolEmpty, Busy)),
+    *(Form(it, 410) for it in (SessionClosed,)),
+    *(Form(it, 413) for it in (TooLarge,)),
+    *(Form(it, 503) for it in (NoMemory, NoSeat, NoAnswer)),
+    *(Form(it) for it in (OSError, ValueError)),
+    Form(KeyboardInterrupt, exit_code=130),
+    Form(BrokenPipeError, exit_code=128 + 13))}  # (as a shell tells of a command whose output lost its reader)
+
+
+def exit_code_of(fault: BaseException) -> int:
+    """The status of a command that an error ends."""
+    return next((TABLE[it.__name__].exit_code for it in type(fault).__mro__ if it.__name__ in TABLE), 1)
+
+
 def needed(package: str, what: str) -> Any:
     """An optional package, or a module of it, by its name. Raises `Missing` where it isn't there, which says what needs it."""
     try:

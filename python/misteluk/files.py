@@ -3,21 +3,18 @@ from __future__ import annotations
 
 import contextlib
 import errno
-import gzip
 import io
 import os
-import secrets
-import zlib
 from typing import IO, Any, BinaryIO, Iterator, NoReturn, TextIO, Tuple, Type, cast
 
 from .errors import SaveFault, needed
-from .engine.finding import Path
+from .values.texts import Path
 
 # How packed files begin, by the end of their names.
 _BEGINNINGS = {".gz": b"\x1f\x8b", ".xz": b"\xfd7zXZ\0", ".bz2": b"BZh", ".zst": b"\x28\xb5\x2f\xfd"}
 # Ends of names that say another packing, or an archive.
 _OTHERS = (".zip", ".7z", ".rar", ".tar", ".tgz", ".tbz2", ".txz", ".lz", ".lz4", ".lzma", ".zstd", ".br", ".z")
-_MODULES = {".xz": "lzma", ".bz2": "bz2", ".zst": "zstandard"}
+_MODULES = {".gz": "gzip", ".xz": "lzma", ".bz2": "bz2", ".zst": "zstandard"}
 
 
 def _module(ending: str) -> Any:
@@ -45,7 +42,7 @@ def packer(file: BinaryIO, ending: str) -> "contextlib.AbstractContextManager[IO
         return contextlib.nullcontext(file)
     made: Any
     if ending == ".gz":
-        made = gzip.GzipFile("", "wb", 6, file, mtime=0)
+        made = _module(ending).GzipFile("", "wb", 6, file, mtime=0)
     elif ending == ".zst":
         made = _module(ending).ZstdCompressor().stream_writer(file, closefd=False)
     else:
@@ -59,7 +56,8 @@ def unpacked(data: bytes, name: str, most: int = -1) -> bytes:
     ending = next((it for it, begin in _BEGINNINGS.items() if data.startswith(begin)), "")
     if not ending:
         return data if most < 0 else data[:most]
-    module = gzip if ending == ".gz" else _module(ending)
+    import zlib
+    module = _module(ending)
     faults = {".xz": "LZMAError", ".zst": "ZstdError"}
     known: Tuple[Type[Exception], ...] = (OSError, EOFError, ValueError, zlib.error,
                                           getattr(module, faults.get(ending, ""), EOFError))
@@ -96,7 +94,7 @@ def whole(path: Path) -> "Iterator[BinaryIO]":
     """A file that takes the place of the one of this path when it is whole and on the disk, or never. It has the rights of the
     one that was there."""
     place = place_of(path)
-    beside = f"{place}.{secrets.token_hex(4)}.part"
+    beside = f"{place}.{os.urandom(4).hex()}.part"
     try:
         with open(beside, "xb") as file:
             with contextlib.suppress(FileNotFoundError):

@@ -13,9 +13,9 @@ from .engine.operations import COMMANDS, EXPIRE, REMOVE, Operations, Row
 from .engine.protocol import Denied, Engine, Flight
 from .errors import Busy, PoolEmpty, Refused, SessionClosed, StoreError, TooLarge, refusal
 from .values import records
-from .values.answers import Commit, Stat
+from .values.answers import Commit, Stat, sum_of
 from .values.names import must_be_texts
-from .values.terms import Terms
+from .feeds.terms import Terms
 from .values.texts import text_of
 from .values.units import Units
 
@@ -268,11 +268,3 @@ class Ledger:
             ways.append(f"give the store more blocks ({self.engine.most_blocks:,} at most)")
         told = "; or ".join(ways)
         return told[:1].upper() + told[1:]
-
-
-def sum_of(receipts: Sequence[Commit]) -> Commit:
-    """What several batches did, as one: the last one's version, and the sums of the counts."""
-    if len(receipts) == 1:
-        return receipts[0]
-    counts = [sum(column) for column in zip(*(it[1:] for it in receipts))]
-    return Commit(receipts[-1].version, *counts)

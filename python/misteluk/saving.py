@@ -22,7 +22,7 @@ from .engine.room import Room
 from .engine.scripts import Records, operations_in
 from .errors import Missing, PoolEmpty, SaveFault, StoreError
 from .feeds.feed import escaped, parts_of
-from .engine.finding import Path
+from .values.texts import Path
 from .values.names import MARK
 from .feeds.progress import Progress
 

@@ -8,7 +8,6 @@ from typing import (TYPE_CHECKING, Any, Callable, Dict, Generic, Iterable, Itera
                     Union, overload)
 
 from . import walks
-from .engine.finding import Path
 from .engine.protocol import WHOLE, Arrays, Denied, Held, Scope
 from .errors import BadName, NoKind, NoVertex, SessionClosed, refusal
 from .values import records
@@ -16,8 +15,8 @@ from .values.answers import Answer, Components, Degree, Edge, Neighbor, T, Value
 from .values.diff import Diff
 from .values.edges import Edges
 from .values.names import Called, must_be_texts
-from .values.terms import Terms
-from .values.texts import text_of
+from .feeds.terms import Terms
+from .values.texts import Path, text_of
 from .values.units import Moment
 
 if TYPE_CHECKING:

@@ -11,7 +11,7 @@ from types import TracebackType
 from typing import (TYPE_CHECKING, Any, Callable, Dict, Generic, Iterator, List, Literal, Optional, Sequence, Tuple, Type,
                     TypedDict, TypeVar, overload)
 
-from .engine.finding import Path
+from .values.texts import Path
 from .engine.guard import noting
 from .engine.library import LibraryEngine
 from .engine.operations import ADD, EXPIRE, INSERT, REMOVE

@@ -42,9 +42,9 @@ def faults(text: str) -> str:
 def main(*wanted: str) -> int:
     names = sorted(it for it in os.listdir(HERE) if re.fullmatch(r"test_\w+\.py", it))
     names = [it for it in names if not wanted or it[5:-3] in wanted]
-    missing = [it for it in ("networkx", "pandas", "matplotlib", "tqdm", *OF_SERVER) if not optional(it)]
-    print(f"python/check: {sys.executable} ({sys.version.split()[0]}) runs {find_program()} and "
-          f"{find_library()}")
+    missing = [it for it in ("networkx", "pandas", "tqdm", *OF_SERVER) if not optional(it)]
+    print(f"python/check: {sys.executable} ({sys.version.split()[0]}) runs {find_program()}")
+    print(f"python/check: the library is {find_library()}")
     if missing:
         print(f"python/check: without {', '.join(missing)}: what needs them is passed over (apt-get install "
               f"{' '.join('python3-' + it for it in missing)})")

@@ -1,4 +1,4 @@
-"""python -m misteluk: load, lint, picture. Values are worked out by hand."""
+"""python -m misteluk: load, restore, view. Values are worked out by hand."""
 import argparse
 import fcntl
 import gzip
@@ -15,9 +15,7 @@ from support import (HERE, IS_REPOSITORY, NO_REPOSITORY, TOP, Case, CommandCase,
                      words_of)
 
 import misteluk
-from misteluk import pictures
 from misteluk.command.main import main
-from misteluk.values.answers import Degree
 from misteluk.command.options import make_parser
 from misteluk.feeds.pipes import F_SETPIPE_SZ
 
@@ -99,15 +97,14 @@ class Commands(CommandCase):
 
     def test_the_page_of_a_saved_file(self):
         saved, page = str(self.room / "s.gz"), self.room / "page.html"
-        around = ("picture", "around", saved, "--around", "a", "-o", page)
+        around = ("view", saved, "--around", "a", "-o", page)
         self.assertEqual(self.run_it("load", self.file("p.csv", PAIRS), *OF_PAIRS, "--add", "--save", saved)[0], 0)
         status, out, err = self.run_it(*around)
         self.assertEqual((status, out, err), (0, f"{page}: a, 2 hops, the saved version: 4 vertices; 3 edges\n", ""))
         self.assertIn("The saved version. 4 vertices within 2 hops of a", page.read_text())
         self.assertIn("a saved file has one version", self.run_it(*around, "--at", "12")[2])
-        self.assertIn("No such file", self.run_it("picture", "around", "none.gz", "--around", "a", "-o", page)[2])
-        for words in (("picture", "around", self.file("p.csv", PAIRS), "--around", "a", "-o", page),
-                      ("picture", "degrees", saved, "-o", self.room / "d.svg")):
+        self.assertIn("No such file", self.run_it("view", "none.gz", "--around", "a", "-o", page)[2])
+        for words in (("view", self.file("p.csv", PAIRS), "--around", "a", "-o", page), ("view", saved, "-o", page)):
             with self.assertRaises(SystemExit) as told, redirect_stderr(io.StringIO()) as err:
                 self.run_it(*words)
             self.assertEqual(told.exception.code, 2)
@@ -153,8 +150,7 @@ class Commands(CommandCase):
                             ("--save and --edges are for what was loaded", (
                                 "load", path, *OF_PAIRS, "--add", "--dry-run", "--save", "x")),
                             ("No such file", ("load", path, *OF_PAIRS, "--add", "--save", "/no/such/x")),
-                            ("No such file", ("restore", "/no/such")),
-                            ("wants --edge", ("picture", "edge", path, *OF_PAIRS, "--add", "-o", "x.svg"))):
+                            ("No such file", ("restore", "/no/such"))):
             status, _, err = self.run_it(*words)
             self.assertEqual((status, told in err), (1, True), err)
 
@@ -210,8 +206,7 @@ class Commands(CommandCase):
         path, saved = self.file("p.csv", PAIRS), str(self.room / "s.csv")
         self.run_it("load", path, *OF_PAIRS, "--add", "--save", saved)
         much = ["--ask", "degrees"] * 100  # (more than the pipe has room for, so that the reader goes before all is written)
-        for words in (("load", path, *OF_PAIRS, "--add", *much), ("restore", saved, "--ask", "cores"),
-                      ("lint", saved)):
+        for words in (("load", path, *OF_PAIRS, "--add", *much), ("restore", saved, "--ask", "cores")):
             reader, writer = os.pipe()
             fcntl.fcntl(writer, F_SETPIPE_SZ, 4_096)
             process = subprocess.Popen([sys.executable, "-m", "misteluk", *words], stdout=writer, stderr=subprocess.PIPE,
@@ -222,11 +217,6 @@ class Commands(CommandCase):
             os.close(reader)
             self.assertEqual((process.communicate(timeout=60)[1], process.returncode), (b"", 141), words)
 
-    def test_lint(self):
-        status, out, _ = self.run_it("lint", self.file("s.csv", "commit\nfly\n"))
-        self.assertEqual((status, out.splitlines()[-1].endswith("s.csv: 1 record is refused")), (1, True))
-        self.assertEqual(self.run_it("lint", self.file("s.csv", "commit\n"))[0], 0)
-
     def test_interactive(self):
         words = ("load", self.file("p.csv", PAIRS), *OF_PAIRS, "--add", "--interactive")
         done = subprocess.run([sys.executable, "-m", "misteluk", *words], stdout=subprocess.PIPE, stderr=subprocess.PIPE,
@@ -236,7 +226,7 @@ class Commands(CommandCase):
     def around(self, told: str, *words: str, rows: str = PAIRS) -> str:
         """The page around `a` of these rows; what is printed of it is as told."""
         path, page = self.file("p.csv", rows), self.room / "a.html"
-        status, out, err = self.run_it("picture", "around", path, *OF_PAIRS, "--add", "--around", "a", "-o", page, *words)
+        status, out, err = self.run_it("view", path, *OF_PAIRS, "--add", "--around", "a", "-o", page, *words)
         self.assertEqual((status, err, out), (0, "", f"{page}: a, {told}\n"))
         return page.read_text()
 
@@ -255,83 +245,21 @@ class Commands(CommandCase):
         self.assertIn("Drawn are 2 of 4 vertices", page)
 
     def test_pages_that_cant_be_made(self):
-        for told, rows, words in (("wants --around", PAIRS, ()), ("ends in .html", PAIRS, ("--around", "a", "-o", "a.svg")),
+        for told, rows, words in (("ends in .html", PAIRS, ("--around", "a", "-o", "a.svg")),
                                   ("has no row up to 9", PAIRS, ("--around", "a", "--at", "9")),
                                   ("has all its rows up to line 6", PAIRS, ("--around", "a", "--at-line", "6")),
                                   ("p.csv:6: a row up to 12 stands behind line 5", PAIRS.replace("14", "9"),
                                    ("--around", "a", "--at", "12")),
                                   ("has a vertex 'z'", PAIRS, ("--around", "z")),
                                   ("hops is from 1", PAIRS, ("--around", "a", "--hops", "0"))):
-            status, _, err = self.run_it("picture", "around", self.file("p.csv", rows), *OF_PAIRS, "--add", "-o",
+            status, _, err = self.run_it("view", self.file("p.csv", rows), *OF_PAIRS, "--add", "-o",
                                          self.room / "a.html", *words)
             self.assertEqual((status, told in err), (1, True), err)
         self.assertFalse((self.room / "a.html").exists())
 
+
+class Documents(Case):
     @unittest.skipUnless(optional("matplotlib"), "matplotlib is not there")
-    def test_pictures(self):
-        __import__("matplotlib.font_manager")  # (which says on a new machine that it looks for fonts)
-        path = self.file("p.csv", PAIRS)
-        for what, more, told in (("degrees", (), "vertices"), ("components", (), "components"), ("cores", (), "core number"),
-                                 ("edge", ("--edge", "link,a,b", "--batch", "1"), "a to b (link)"),
-                                 ("compare", ("--batch", "2", "--first", "1"), "version 1"),
-                                 ("degrees", ("--title", "T"), ">T<")):
-            picture = self.room / f"{what}.svg"
-            status, out, err = self.run_it("picture", what, path, *OF_PAIRS, "--add", "-o", picture, *more)
-            self.assertEqual((status, err), (0, ""))
-            self.assertIn(told, picture.read_text())
-        self.run_it("picture", "cores", path, *OF_PAIRS, "--add", "-o", self.room / "c.png")
-        self.assertEqual((self.room / "c.png").read_bytes()[:4], b"\x89PNG")
-
-
-@unittest.skipUnless(optional("matplotlib"), "matplotlib is not there")
-class Pictures(Case):
-    """What the figures hold."""
-
-    def points(self, figure, line: int = 0) -> list:
-        return [tuple(map(float, it)) for it in figure.axes[0].lines[line].get_xydata()]
-
-    def bars(self, figure, group: int = 0) -> list:
-        bars = [it.get_height() if it.get_width() == 0.8 else it.get_width() for it in figure.axes[0].containers[group]]
-        return [float(it) for it in bars]
-
-    def test_degrees(self):
-        degrees = {"a": Degree(2, 0, 7), "b": Degree(0, 1, 0), "c": Degree(1, 1, 3), "d": Degree(1, 2, 1)}
-        figure = pictures.degree_distribution(degrees)
-        self.assertEqual(self.points(figure), [(1, 2), (2, 1)])
-        self.assertEqual(self.points(figure, 1), [(1, 2), (2, 1)])
-        told = [it.get_text() for it in figure.axes[0].get_legend().get_texts()]
-        self.assertEqual(told, ["out (1 have none)", "in (1 have none)"])
-
-    def test_components(self):
-        self.assertEqual(self.points(pictures.component_sizes({"a": "a", "b": "a", "c": "c", "d": "d"})), [(1, 2), (2, 1)])
-
-    def test_cores(self):
-        self.assertEqual(self.bars(pictures.core_numbers({"a": 3, "b": 1, "c": 3})), [0, 1, 0, 2])
-
-    def test_weights(self):
-        figure = pictures.edge_weights([(1, 5), (2, None), (3, 7)])
-        self.assertEqual(self.points(figure, 1), [(1, 5), (3, 7)])
-        self.assertEqual(self.points(figure, 2), [(2, 0)])
-
-    def test_side_by_side(self):
-        figure = pictures.side_by_side({"a": 1, "b": 5}, {"a": 1, "b": 2, "c": 9}, ("old", "new"), most=2)
-        self.assertEqual([it.get_text() for it in figure.axes[0].get_yticklabels()], ["b", "c"])
-        self.assertEqual((self.bars(figure), self.bars(figure, 1)), ([5, 0], [2, 9]))
-
-    def test_a_notebook_s_way_to_show_pictures_stays(self):
-        code = ("import matplotlib; matplotlib.use('svg'); from misteluk import pictures\n"
-                "pictures.save(pictures.core_numbers({'a': 1}), 'x.png')\n"
-                "from matplotlib import pyplot; print(matplotlib.get_backend(), pyplot.get_fignums())")
-        done = subprocess.run([sys.executable, "-c", code], stdout=subprocess.PIPE, text=True, cwd=self.room,
-                              env={**os.environ, "PYTHONPATH": str(HERE.parent)}, check=True)
-        self.assertEqual(done.stdout, "svg []\n")
-
-    def test_nothing_to_draw(self):
-        for figure in (pictures.degree_distribution({}), pictures.component_sizes({}), pictures.core_numbers({}),
-                       pictures.edge_weights([]), pictures.side_by_side({}, {}, ("a", "b"))):
-            pictures.save(figure, self.room / "e.svg")
-        self.assertRaises(ValueError, pictures.save, pictures.core_numbers({}), "e.pdf")
-
     @unittest.skipUnless(IS_REPOSITORY, NO_REPOSITORY)
     def test_the_pictures_of_the_documents_are_drawn_by_their_script(self):
         """In a copy; the same bytes where matplotlib is the version that drew them, and a browser's picture of the same size."""

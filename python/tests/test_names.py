@@ -10,12 +10,12 @@ import threading
 import unittest
 from unittest import mock
 
-from support import HERE, Case, CommandCase, optional, words_of
+from support import HERE, Case, CommandCase, words_of
 
 import misteluk
 from misteluk import Degree, Edge, Feed, Store
-from misteluk.command.main import named_edge
-from misteluk.values import names, terms
+from misteluk.feeds import terms
+from misteluk.values import names
 from misteluk.values.names import NameTable, id_of, shown
 
 IVANOV, WANG, SPACES, LONG = "Иванов Пётр Сергеевич", "王小明", " a  b ", "x" * 120
@@ -270,21 +270,6 @@ class Commands(CommandCase):
 
     def test_what_is_shown(self):
         self.assertEqual([shown(it) for it in (IVANOV, "a\nb", "\x1b[31m", "a b")], [IVANOV, r"'a\nb'", r"'\x1b[31m'", "a b"])
-
-    def test_an_edge_by_its_names(self):
-        self.assertEqual(named_edge(f'k,"{IVANOV}, младший",b'), ["k", f"{IVANOV}, младший", "b"])
-        for wrong in ("", "a,b", "a,b,c,d"):
-            with self.assertRaisesRegex(ValueError, "wants --edge"):
-                named_edge(wrong)
-
-    @unittest.skipUnless(optional("matplotlib"), "matplotlib is not there")
-    def test_pictures(self):
-        for what, more, told in (("compare", ("--batch", "2", "--first", "1"), "ann"),
-                                 ("edge", ("--edge", f"шлёт,{IVANOV},{WANG}"), f"{IVANOV} to {WANG}")):
-            picture = self.room / f"{what}.svg"
-            status, _, _ = self.run_it("picture", what, *self.people(), "-o", picture, *more)
-            self.assertEqual(status, 0)
-            self.assertIn(told, picture.read_text(encoding="utf-8"))
 
 
 if __name__ == "__main__":

@@ -275,7 +275,8 @@ class Help(Case):
             it = getattr(misteluk, name)
             self.assertTrue(it.__module__.startswith("misteluk."), name)
             self.assertTrue(inspect.getdoc(it) or issubclass(it, errors.Refused), name)
-        known = {name for name, it in vars(errors).items() if inspect.isclass(it) and it.__module__ == errors.__name__}
+        known = {name for name, it in vars(errors).items() if inspect.isclass(it) and it.__module__ == errors.__name__
+                 and issubclass(it, Exception)}
         self.assertEqual(known - set(misteluk.__all__), set())
         told = pydoc.plain(pydoc.render_doc(misteluk))
         for wrong in ("TYPE_CHECKING", "NamedTuple(", "class Dict", "Optional ="):

@@ -6,9 +6,8 @@ from array import array
 from support import Case, words_of
 
 from misteluk.values import records
-from misteluk.lint import read_records
 from misteluk.values.names import id_of
-from misteluk.values.terms import Terms
+from misteluk.feeds.terms import Terms
 from misteluk.values.units import Units
 
 FROM_THE_RECORD_ALONE = {"BadCommand", "BadFields", "BadName", "BadWeight", "BadTime", "BadSlot"}
@@ -42,20 +41,6 @@ class Records(Case):
         self.assertGreater(len(set(it[0].word for it in faults.values() if it)), 5)
         script = "".join(map(records.record, all_of_them)).encode()
         self.judge({at: it[0].word for at, it in faults.items() if it}, script)
-
-    def test_records_are_parted_as_the_program_parts_them(self):
-        random_ = random.Random(2)
-        for _ in range(80):
-            script = bytes(random_.choice(b'rrr,,,,kab"" \r\n') for _ in range(random_.randrange(1, 400)))
-            script = random_.choice([b"", b"", b"\xef\xbb\xbf"]) + script
-            faults = {at: records.faults_of(it) for at, (_, it) in enumerate(read_records(script), 1)}
-            with self.subTest(script=script):
-                self.judge({at: it[0].word for at, it in faults.items() if it}, script)
-
-    def test_lines_are_counted(self):
-        script = b'r,k,a,b\n\n"r","k","a\n","b"\r\nr,k,a,b\rcommit'
-        self.assertEqual(list(read_records(script)), [
-            (1, ["r", "k", "a", "b"]), (3, ["r", "k", "a\n", "b"]), (5, ["r", "k", "a", "b"]), (6, ["commit"])])
 
     def test_a_record_is_split_as_it_was_joined(self):
         for fields in (["i", "a,b", 'a"b', "c", "1", "2"], ["r", '"', ",", '","'], ["commit"], ["r", "", "a", ""]):

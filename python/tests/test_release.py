@@ -54,44 +54,10 @@ class Pages(Case):
         self.assertEqual(missing, [])
         self.assertNotIn("warning", told)
 
-    def test_a_page_of_the_client_that_differs_is_told(self):
-        """An option of another name: each of the three pages has options."""
-        shutil.copytree(TOP / "python/misteluk", self.room / "python/misteluk")
-        shutil.copytree(TOP / "share", self.room / "share")
-        (self.room / "tools").mkdir()
-        for it in ("help-pages", "client_pages.py"):
-            shutil.copy(TOP / "tools" / it, self.room / "tools")
-        words = (sys.executable, self.room / "tools/help-pages", "--program", find_program(), "--check")
-        self.assertEqual(run(*words).stdout, "")
-        module = self.room / "python/misteluk/command/options.py"
-        module.write_text(module.read_text().replace('add_argument("--title"', 'add_argument("--heading"'))
-        told = [f"share/{it} isn't what the program says of itself: tools/help-pages writes it\n"
-                for it in ("man/man1/misteluk.1", "bash-completion/completions/misteluk", "zsh/site-functions/_misteluk")]
-        done = run(*words)
-        self.assertEqual((done.returncode, done.stdout), (1, "".join(told)))
-
-    def test_the_client_s_manual_has_each_option(self):
-        """With its help, as argparse prints them; both without regard to ends of lines."""
-        if not shutil.which("man"):
-            self.skipTest("man is not there")
-        env = {**os.environ, "MANWIDTH": "500", "COLUMNS": "500", "LC_ALL": "C", "PYTHONPATH": str(TOP / "python")}
-        told = run("man", "--warnings", "-E", "ascii", "-l", TOP / "share/man/man1/misteluk.1", env=env).stdout
-        plain = re.sub(r"\s+", " ", re.sub(".\b", "", told))
-        seen = 0
-        for command in ("load", "lint", "picture"):
-            said = run(sys.executable, "-B", "-m", "misteluk", command, "--help", env=env).stdout
-            for names, text in re.findall(r"(?m)^  (-.*?)(?:(?:  +|\n {20,})(\S.*))?$", said):
-                first = re.split(r"[ ,]", names)[0]
-                self.assertIn(f" {first}", plain)
-                self.assertIn(text, plain)
-                seen += bool(text)
-        self.assertGreater(seen, 50)
-        self.assertNotIn("warning", told)
-
-    def complete(self, wanted: str, *words: str, name: str = "stinger") -> None:
+    def complete(self, wanted: str, *words: str) -> None:
         """What bash offers behind these words."""
-        script = (f"source {TOP}/share/bash-completion/completions/{name}; COMP_WORDS=({name} \"$@\"); COMP_CWORD=$#; "
-                  f"_{name}; echo \"${{COMPREPLY[*]}}\"")
+        script = (f"source {TOP}/share/bash-completion/completions/stinger; COMP_WORDS=(stinger \"$@\"); COMP_CWORD=$#; "
+                  "_stinger; echo \"${COMPREPLY[*]}\"")
         self.assertEqual(run("bash", "-c", script, "bash", *words).stdout.strip(), wanted)
 
     def test_completion_for_bash(self):
@@ -102,21 +68,10 @@ class Pages(Case):
         self.complete("1 2 3 4 5 6 7 8", "run", "--seats", "4", "--workers", "")
         self.complete("run", "help", "r")
 
-    def test_completion_of_the_client_for_bash(self):
-        """Files are offered by bash itself, where there is no word."""
-        self.complete("load restore follow serve lint doctor picture -h --help -V --version", "", name="misteluk")
-        self.complete("--dry-run", "load", "file.csv", "--dr", name="misteluk")
-        self.complete("degrees weights_in components cores edges levels into out_of neighbors within path edge", "load",
-                      "file.csv", "--ask", "", name="misteluk")
-        self.complete("components compare", "picture", "comp", name="misteluk")
-        self.complete("--seats", "lint", "--s", name="misteluk")
-        self.complete("", "load", "fi", name="misteluk")
-
     def test_completion_for_zsh(self):
         if not shutil.which("zsh"):
             self.skipTest("zsh is not there")
-        for it in ("_stinger", "_misteluk"):
-            self.assertEqual(run("zsh", "-n", TOP / "share/zsh/site-functions" / it).stdout, "")
+        self.assertEqual(run("zsh", "-n", TOP / "share/zsh/site-functions/_stinger").stdout, "")
 
 
 @functools.lru_cache(maxsize=None)
@@ -192,8 +147,7 @@ class Releases(Case):
         self.assertEqual(told, (there / "examples/funnel.expected").read_text())
         self.from_the_archive(there)
         self.c_from_the_archive(there)
-        for it in ("LICENSE-MIT", "LICENSE-APACHE",
-                   "share/man/man1/stinger.1", "share/man/man1/misteluk.1", "docs/TUTORIAL.md", "python/pyproject.toml"):
+        for it in ("LICENSE-MIT", "LICENSE-APACHE", "share/man/man1/stinger.1", "docs/TUTORIAL.md", "python/pyproject.toml"):
             self.assertTrue((there / it).is_file(), it)
         self.assertFalse((there / "crates").exists())
 
@@ -264,7 +218,7 @@ class Releases(Case):
             tar.extractall(self.room / "there")
         (there,) = (self.room / "there").iterdir()
         env = {it: value for it, value in os.environ.items() if not it.startswith("MISTELUK_")} | {"PYTHON": sys.executable}
-        done = run(there / "python/check", "records", "release", "lint", env=env)
+        done = run(there / "python/check", "records", "release", "tables", env=env)
         self.assertEqual(done.returncode, 0, done.stdout)
         self.assertIn(f" runs {there}/bin/stinger\n", done.stdout)
         self.assertRegex(done.stdout, r"(?m)^release\b.*: \d+ s, \d+ passed over: this is no repository, but a released archive$")

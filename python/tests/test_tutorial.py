@@ -59,7 +59,7 @@ class Documents(Case):
                 before += f"{command}\n"
                 continue
             names = "|".join(["misteluk", "stinger drive", "head", *re.findall(r"(?m)^(\w+)\(\) \{", before)])
-            if " picture " in command and not optional("matplotlib") or not re.search(rf"\b({names})\b", command):
+            if not re.search(rf"\b({names})\b", command):
                 continue
             run = subprocess.run(before + command, shell=True, executable="/bin/bash", cwd=self.room, env=self.env,
                                  stdout=subprocess.PIPE, stderr=subprocess.STDOUT, text=True, timeout=60)
@@ -69,7 +69,7 @@ class Documents(Case):
         return count
 
     def test_the_tutorial_s_commands(self):
-        self.assertEqual(self.run_commands(TUTORIAL), 9 if optional("matplotlib") else 7)
+        self.assertEqual(self.run_commands(TUTORIAL), 8)
 
     def conversations(self, path) -> int:
         """Runs what stands behind >>>, and returns how many such lines there were."""
@@ -77,7 +77,7 @@ class Documents(Case):
         os.chdir(self.room)
         self.addCleanup(os.chdir, here)
         told, text = io.StringIO(), text_of(path)
-        if optional("networkx") and optional("pandas"):
+        if all(map(optional, ("networkx", "pandas", "matplotlib"))):
             text = re.sub(" *# doctest: \\+SKIP", "", text)
         page = doctest.DocTestParser().get_doctest(text, {}, path.name, str(path), 0)
         runner = doctest.DocTestRunner(optionflags=doctest.ELLIPSIS | doctest.IGNORE_EXCEPTION_DETAIL)

@@ -5,7 +5,7 @@ from datetime import date, datetime, timedelta, timezone
 from decimal import Decimal
 from fractions import Fraction
 
-from support import Case, CommandCase, optional, words_of
+from support import Case, CommandCase, words_of
 
 import misteluk
 from misteluk import Columns, Commit, Degree, Edge, Feed, Store
@@ -331,18 +331,6 @@ class Commands(CommandCase):
         self.assertEqual(words_of(script.read_bytes()), {})
         out = self.run_it(*cents[:-4], "--times", "iso", "--dry-run", "--skip-bad")[1]
         self.assertIn("c.csv:2: BadWeight: amount '12.50'", out)
-
-    @unittest.skipUnless(optional("matplotlib"), "matplotlib is not there")
-    def test_pictures(self):
-        from misteluk import pictures
-        figure = pictures.edge_weights([(1, Decimal("0.05")), (2, None), (3, Decimal("0.10"))])
-        self.assertEqual([tuple(it) for it in figure.axes[0].lines[1].get_xydata()], [(1.0, 0.05), (3.0, 0.1)])
-        columns = ("--source", "from", "--target", "to", "--weight", "n", "--time", "t", "--add", "--weight-scale", "100")
-        for what, more in (("edge", ("--edge", "link,a,b")), ("compare", ("--batch", "1", "--first", "1")), ("degrees", ())):
-            picture = self.room / f"{what}.svg"
-            status, _, err = self.run_it("picture", what, self.file_of_cents(), *columns, "--times", "iso", "-o", picture, *more)
-            self.assertEqual((status, err), (0, ""))
-            self.assertIn("</svg>", picture.read_text())
 
 
 if __name__ == "__main__":

@@ -1,4 +1,4 @@
-"""`misteluk picture around`: the page of a vertex's neighborhood in a file's graph, also beside an earlier one."""
+"""`misteluk view`: the page of a vertex's neighborhood in a file's graph, also beside an earlier one."""
 from __future__ import annotations
 
 import argparse
@@ -15,8 +15,8 @@ from ..page.view import MOST_DRAWN, MOST_HOPS, USUAL_DRAWN, View, view
 
 
 def add_options(parser: argparse.ArgumentParser) -> None:
-    around = parser.add_argument_group("around: the page of a vertex's neighborhood")
-    around.add_argument("--around", metavar="NAME", help="the vertex in the middle")
+    around = parser.add_argument_group("what it shows")
+    around.add_argument("--around", metavar="NAME", required=True, help="the vertex in the middle")
     around.add_argument("--hops", type=int, default=2, metavar="N", help=f"how many edges the farthest are away, {MOST_HOPS} at "
                         "most (2)")
     around.add_argument("--most", type=int, default=USUAL_DRAWN, metavar="N", help="how many vertices are drawn, the nearest and "
@@ -29,8 +29,6 @@ def add_options(parser: argparse.ArgumentParser) -> None:
 
 def check(words: argparse.Namespace) -> None:
     """Raises `ValueError` before a file is read where the page can't be made."""
-    if not words.around:
-        raise ValueError("the page of a neighborhood wants --around NAME")
     if not words.output.lower().endswith((".html", ".htm")):
         raise ValueError(f"a page's name ends in .html, and not as {words.output!r}")
 

@@ -14,8 +14,9 @@ from ..errors import StoreError
 from ..feeds.following import Following
 from ..feeds.spans import kept_time
 from ..feeds.steps import Followed
-from .questions import for_json, lines
+from .questions import lines
 from ..store import Store
+from ..values.texts import for_json
 
 SIGNALS = (signal.SIGINT, signal.SIGTERM)
 # Signals within so many seconds are one: `timeout` sends its own to the process and to the group that it is in.

@@ -1,26 +1,25 @@
-"""What `misteluk` does: load, restore, follow, serve, lint, picture, doctor."""
+"""What `misteluk` does: load, restore, follow, serve, view, doctor."""
 from __future__ import annotations
 
 import argparse
 import code
-import csv
 import io
+import os
 import sys
 import warnings
-from contextlib import contextmanager
+from contextlib import contextmanager, suppress
 from typing import Any, Dict, Iterator, List, Optional
 
 from . import around, doctor, follow as telling, serve
 
-from .. import files, pictures
+from .. import files
 
 from ..values import records
 from ..values.limits import OF_SCRIPT
-from ..errors import StoreError
+from ..errors import StoreError, exit_code_of
 from ..feeds.feed import STANDARD_INPUT
-from ..lint import lint
 from ..feeds.limits import check
-from ..feeds.loading import load, load_in_steps
+from ..feeds.loading import load
 from ..feeds.surveys import Survey, survey
 from ..values.names import shown
 from .options import columns_of, make_parser
@@ -33,16 +32,13 @@ from ..store import Store
 
 # What a run of a script takes.
 OF_RUN: Dict[str, Any] = {"limits": OF_SCRIPT, "most_blocks": records.MOST_BLOCKS}
-# The status that a shell tells of a command whose output lost its reader.
-ITS_READER_WENT = 128 + 13
 
 
 def form_of_feed(words: argparse.Namespace) -> Dict[str, Any]:
     """What is said of the feed."""
     return {"by": words.by, "weight_scale": words.weight_scale, "times": words.times, "names": words.names,
             "format": words.format, "columns": columns_of(words), "delimiter": words.delimiter, "header": words.header,
-            "encoding": words.encoding, "decimal": words.decimal, "dates": words.dates,
-            "third": words.third}
+            "encoding": words.encoding, "decimal": words.decimal, "dates": words.dates, "third": words.third}
 
 
 def read(words: argparse.Namespace) -> Survey:
@@ -143,27 +139,7 @@ def run_doctor(words: argparse.Namespace) -> int:
     return 0 if is_well else 1
 
 
-def run_lint(words: argparse.Namespace) -> int:
-    findings = lint(words.script, program=words.program, seats=words.seats, blocks=words.blocks)
-    for it in findings:
-        print(it)
-    print(f"{words.script}: {'1 record is' if len(findings) == 1 else f'{len(findings)} records are'} refused")
-    return 1 if findings else 0
-
-
-def run_picture(words: argparse.Namespace) -> int:
-    if words.what == "around":
-        return run_around(words)
-    found = read(words)
-    draw = draw_versions if words.what in ("edge", "compare") else draw_last
-    with Store(blocks=words.blocks) as store:
-        figure = draw(words, store, found)
-    pictures.save(figure, words.output)
-    print(f"{words.output}: {words.what} of {found}")
-    return 0
-
-
-def run_around(words: argparse.Namespace) -> int:
+def run_view(words: argparse.Namespace) -> int:
     around.check(words)
     if words.by is None:
         return run_around_saved(words)
@@ -187,49 +163,6 @@ def run_around_saved(words: argparse.Namespace) -> int:
     return 0
 
 
-def draw_last(words: argparse.Namespace, store: Store[Any, Any], found: Survey) -> Any:
-    store.load(found, by=words.by, skip_bad=words.skip_bad)
-    more = {} if words.title is None else {"title": words.title}
-    with store.open() as session:
-        if words.what == "degrees":
-            return pictures.degree_distribution(session.degrees(**window(words)), **more)
-        if words.what == "components":
-            return pictures.component_sizes(session.components(**window(words)), **more)
-        return pictures.core_numbers(session.cores(**window(words)), **more)
-
-
-def named_edge(text: str) -> List[str]:
-    """A kind, source and target, parted by commas; one that has a comma stands in quotes, as in a file."""
-    edge: List[str] = next(csv.reader([text]), [])
-    if len(edge) != 3:
-        raise ValueError("the picture of an edge wants --edge KIND,SOURCE,TARGET")
-    return edge
-
-
-def draw_versions(words: argparse.Namespace, store: Store[Any, Any], found: Survey) -> Any:
-    """Pictures that need more than the last version: sessions are opened between batches."""
-    steps = load_in_steps(store, found, skip_bad=words.skip_bad)
-    if words.what == "edge":
-        edge = named_edge(words.edge or "")
-        weights = []
-        for _ in steps:
-            with store.open() as session:
-                it = session.edges([(edge[0], edge[1], edge[2])], missing=None)[0]
-                weights.append((session.version, it.weight if it else None))
-        return pictures.edge_weights(weights, words.title or f"{edge[1]} to {edge[2]} ({edge[0]})")
-    first: Optional[Session[Any, Any]] = None
-    for at, _ in enumerate(steps, 1):
-        if at == (words.first or max(1, len(found.parts) // 2)):
-            first = store.open()
-    if first is None:
-        raise ValueError(f"the first session can't be opened behind batch {words.first}: there are {len(found.parts)}")
-    second = store.open()
-    tables = [session.degrees(**window(words)) for session in (first, second)]
-    old, new = ({name: float(it.weight_out) for name, it in table.items()} for table in tables)
-    return pictures.side_by_side(old, new, (f"version {first.version}", f"version {second.version}"),
-                                 words.title or "Weight that goes out, in two sessions", "weight out")
-
-
 @contextmanager
 def plain_warnings() -> Iterator[None]:
     """What is warned of is told as a fault is, without a line of the client's sources."""
@@ -241,35 +174,36 @@ def plain_warnings() -> Iterator[None]:
 
 
 def may_be_saved(words: argparse.Namespace) -> bool:
-    """Whether a picture is of a saved file, or of one that can't be read, which is told later."""
+    """Whether a page is of a saved file, or of one that can't be read, which is told later."""
     try:
-        return bool(words.what == "around" and words.file != STANDARD_INPUT and is_saved(words.file))
+        return words.file != STANDARD_INPUT and is_saved(words.file)
     except OSError:
-        return bool(words.what == "around")
+        return True
 
 
 @plain_warnings()
 def main(words: Optional[List[str]] = None) -> int:
     parser = make_parser()
+    if "_ARGCOMPLETE" in os.environ:  # (a shell asks what a word may be)
+        with suppress(ImportError):
+            import argcomplete
+            argcomplete.autocomplete(parser)
     parsed = parser.parse_args(words)
-    if parsed.command == "picture" and parsed.by is None and not may_be_saved(parsed):
-        parser.error("one of the arguments --set --add is required, but for the page around a name in a saved file")
+    if parsed.command == "view" and parsed.by is None and not may_be_saved(parsed):
+        parser.error("one of the arguments --set --add is required, but for a saved file")
     for it in (sys.stdout, sys.stderr):
         if isinstance(it, io.TextIOWrapper):  # (a name that the terminal has no signs for)
             it.reconfigure(errors="backslashreplace")
     try:
         run = {"load": run_load, "restore": run_restore, "follow": run_follow, "serve": run_serve,
-               "lint": run_lint, "picture": run_picture, "doctor": run_doctor}
+               "view": run_view, "doctor": run_doctor}
         status = run[parsed.command](parsed)
         if sys.stdout:
             sys.stdout.flush()
         return status
-    except BrokenPipeError:
+    except BrokenPipeError as fault:
         telling.leave_output()
-        return ITS_READER_WENT
-    except (StoreError, OSError, ValueError) as fault:
-        print(f"misteluk: {fault}", file=sys.stderr)
-        return 1
-    except KeyboardInterrupt:
-        print("misteluk: interrupted", file=sys.stderr)
-        return 130
+        return exit_code_of(fault)
+    except (StoreError, OSError, ValueError, KeyboardInterrupt) as fault:
+        print(f"misteluk: {'interrupted' if isinstance(fault, KeyboardInterrupt) else fault}", file=sys.stderr)
+        return exit_code_of(fault)

@@ -158,26 +158,12 @@ def add_serve(parser: argparse.ArgumentParser) -> None:
     serve.add_options(parser)
 
 
-def add_lint(check: argparse.ArgumentParser) -> None:
-    check.add_argument("script", help="records, as `stinger run` reads them")
-    check.add_argument("--seats", type=int, default=records.USUAL_SEATS, metavar="N",
-                       help=f"how many sessions the run may have open at once ({records.USUAL_SEATS})")
-    check.add_argument("--blocks", type=int, default=records.USUAL_BLOCKS, help=f"the run's blocks ({records.USUAL_BLOCKS:,})")
-    check.add_argument("--program", help="the program to run; else MISTELUK_PROGRAM, the repository's or the path's")
-
-
-def add_picture(picture: argparse.ArgumentParser) -> None:
-    picture.add_argument("what", choices=("degrees", "components", "cores", "edge", "compare", "around"),
-                         help="edge: a weight over versions, one a batch; compare: two sessions' weights going out; around: a "
-                         "page of a vertex's neighborhood")
-    add_feed_options(picture, saved="; around: also one that --save wrote, without --set or --add")
-    picture.add_argument("-o", "--output", required=True, metavar="PICTURE", help="a name that ends in .svg or .png; that of a "
-                         "page in .html")
-    picture.add_argument("--title", help="what stands above the picture (else what it shows)")
-    picture.add_argument("--edge", metavar="KIND,SOURCE,TARGET", help="the edge, for the picture of that name")
-    picture.add_argument("--first", type=int, metavar="N", help="compare: open the first session behind N batches (else half)")
-    around.add_options(picture)
-    add_window(picture)
+def add_view(page: argparse.ArgumentParser) -> None:
+    add_feed_options(page, saved="; or one that --save wrote, without --set or --add")
+    page.add_argument("-o", "--output", required=True, metavar="PAGE", help="a name that ends in .html")
+    page.add_argument("--title", help="what stands above the page (else what it shows)")
+    around.add_options(page)
+    add_window(page)
 
 
 def make_parser() -> argparse.ArgumentParser:
@@ -197,9 +183,8 @@ def make_parser() -> argparse.ArgumentParser:
     add_restore(commands.add_parser("restore", help="make a store of a saved file, and ask"))
     add_follow(commands.add_parser("follow", help="load a file that grows, or standard input, as it comes; Ctrl-C ends it"))
     add_serve(commands.add_parser("serve", help="serve a live graph over HTTP: one feed, and many who ask; Ctrl-C ends it"))
-    add_lint(commands.add_parser("lint", help="tell each refused record of a script, with its line, field and reason"))
     commands.add_parser("doctor", help="tell which library is loaded, where it is, whether it was proved, and its limits")
-    add_picture(commands.add_parser("picture", help="draw a picture of a file's graph (needs matplotlib, but for around)"))
+    add_view(commands.add_parser("view", help="make a page of a vertex's neighborhood in a file's graph"))
     return parser
 
 

@@ -2,8 +2,6 @@
 from __future__ import annotations
 
 import shlex
-from datetime import datetime
-from decimal import Decimal
 from typing import Any, Dict, Iterator, List, NamedTuple, Optional, Tuple
 
 from ..values.answers import Edge, Neighbor
@@ -192,15 +190,6 @@ def _row(row: Dict[str, Any]) -> str:
     if "recent" in row:
         return _told_edge(row)
     return str(next(row[it] for it in (*VALUES.values(), "level", "size") if it in row))
-
-
-def for_json(value: Any) -> Any:
-    """What JSON has no form for: a decimal weight as a text, which keeps all its digits, and a time as a text of ISO 8601."""
-    if isinstance(value, Decimal):
-        return str(value)
-    if isinstance(value, datetime):
-        return value.isoformat()
-    raise TypeError(f"{type(value).__name__} has no form in JSON")
 
 
 def all_lines(asked: Question, session: Session[Any, Any], top: int, column: str, window: Dict[str, Any]) -> List[str]:

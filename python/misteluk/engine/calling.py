@@ -2,7 +2,6 @@
 from __future__ import annotations
 
 import os
-import platform
 import threading
 from array import array
 from ctypes import c_uint64
@@ -36,7 +35,7 @@ def opened(path: str) -> "Tuple[Library, Handles]":
         except OSError as fault:
             # (the C library says of a file of another machine that it isn't there)
             is_other = "No such file" in str(fault) and os.path.isfile(path)
-            why = f" (it is there, of another machine than {platform.machine()}, or needs what isn't here)" if is_other else ""
+            why = f" (it is there, of another machine than {os.uname().machine}, or needs what isn't here)" if is_other else ""
             raise LibraryNotFound(f"no library can be loaded: {fault}{why}. {next_step()}") from fault
     return _OPENED[key]
 

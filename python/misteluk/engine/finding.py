@@ -2,15 +2,13 @@
 from __future__ import annotations
 
 import os
-import pathlib
-import shutil
-from typing import Optional, Union
+from typing import Optional, Tuple
 
 from ..errors import LibraryNotFound, ProgramNotFound
+from ..values.texts import Path
 
 VARIABLE, OF_LIBRARY = "MISTELUK_PROGRAM", "MISTELUK_LIBRARY"
 LIBRARY = "libmisteluk.so"
-Path = Union[str, "os.PathLike[str]"]
 
 
 def next_step() -> str:
@@ -22,10 +20,17 @@ def next_step() -> str:
             f"{LIBRARY}")
 
 
+def _around() -> Tuple[str, str]:
+    """The package, and the repository or archive that it stands in."""
+    here = os.path.dirname(os.path.dirname(os.path.realpath(__file__)))
+    return here, os.path.dirname(os.path.dirname(here))
+
+
 def find_program(program: Optional[Path] = None) -> str:
     """The program that is run: the one that is named, else that of the variable MISTELUK_PROGRAM, else the one that was installed
     with this package, else `./stinger` of the repository or `bin/stinger` of the archive that it stands in, else `stinger` on the
     path."""
+    import shutil
     named = program or os.environ.get(VARIABLE)
     if named:
         found = shutil.which(os.fspath(named)) or shutil.which(os.path.abspath(named))
@@ -33,11 +38,10 @@ def find_program(program: Optional[Path] = None) -> str:
             whose = "" if program else f" (named by {VARIABLE})"
             raise ProgramNotFound(f"{os.fspath(named)}{whose} is no program that can be run")
         return found
-    here = pathlib.Path(__file__).resolve().parents[1]
-    top = here.parents[1]
-    for it in (here / "bin" / "stinger", top / "stinger", top / "bin" / "stinger"):
-        if it.is_file() and os.access(it, os.X_OK):
-            return str(it)
+    here, top = _around()
+    for it in (f"{here}/bin/stinger", f"{top}/stinger", f"{top}/bin/stinger"):
+        if os.path.isfile(it) and os.access(it, os.X_OK):
+            return it
     found = shutil.which("stinger")
     if not found:
         raise ProgramNotFound(f"no program stinger is here or on the PATH: name it by program= or by the variable {VARIABLE}")
@@ -54,11 +58,10 @@ def find_library(library: Optional[Path] = None) -> str:
             whose = "" if library else f" (named by {OF_LIBRARY})"
             raise LibraryNotFound(f"no file {os.fspath(named)}{whose} is there. {next_step()}")
         return os.path.abspath(named)
-    here = pathlib.Path(__file__).resolve().parents[1]
-    top = here.parents[1]
-    made = [it / LIBRARY for it in (top / "crates" / "misteluk_c" / "out", top / "out" / "compiled") if (it / LIBRARY).is_file()]
-    made.sort(key=lambda it: it.stat().st_mtime, reverse=True)  # (the later one is of the sources as they are, if any is)
-    for it in (here / "lib" / LIBRARY, *made, top / "lib" / LIBRARY):
-        if it.is_file():
-            return str(it)
+    here, top = _around()
+    made = [it for it in (f"{top}/crates/misteluk_c/out/{LIBRARY}", f"{top}/out/compiled/{LIBRARY}") if os.path.isfile(it)]
+    made.sort(key=os.path.getmtime, reverse=True)  # (the later one is of the sources as they are, if any is)
+    for it in (f"{here}/lib/{LIBRARY}", *made, f"{top}/lib/{LIBRARY}"):
+        if os.path.isfile(it):
+            return it
     raise LibraryNotFound(f"no {LIBRARY} is here. {next_step()}")

@@ -2,10 +2,8 @@
 from __future__ import annotations
 
 import codecs
-import gzip
 import io
 import os
-import urllib.parse
 from itertools import chain, islice
 from typing import (IO, Any, Callable, Iterable, Iterator, List, NamedTuple, Optional, Sequence, Tuple, TypeVar, Union, cast,
                     overload)
@@ -150,7 +148,8 @@ def parts_of(items: Iterable[T], size: int) -> Iterator[List[T]]:
 
 def escaped(name: str) -> str:
     """The name with escapes (%20 for a space) for what no name has, and for % itself; `urllib.parse.unquote` undoes it."""
-    return urllib.parse.quote(name, errors="surrogateescape", safe="!\"#$&'()*+,-./:;<=>?@[\\]^_`{|}~")
+    from urllib.parse import quote
+    return quote(name, errors="surrogateescape", safe="!\"#$&'()*+,-./:;<=>?@[\\]^_`{|}~")
 
 
 def turned(feed: Feed, *, names: str = "plain") -> Feed:
@@ -189,6 +188,7 @@ def open_text(path: Path, encoding: str = "utf-8") -> IO[str]:
     if path == STANDARD_INPUT:
         raw = open(0, "rb", closefd=False)
     else:
+        import gzip
         raw = gzip.open(path, "rb") if os.fspath(path).endswith(".gz") else open(path, "rb")
     return io.TextIOWrapper(raw, encoding=codec, errors="surrogateescape", newline="")
 

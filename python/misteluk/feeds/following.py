@@ -23,7 +23,7 @@ from .progress import Progress
 from .rejects import Bin, Lines, Rejected, Rejects
 from .spans import Span, ahead_time, kept_time, seconds_of
 from .steps import Followed, FeedPlace, Pace, Recipe
-from ..values.terms import Terms
+from .terms import Terms
 
 if TYPE_CHECKING:
     from ..store import Store

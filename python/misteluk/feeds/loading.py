@@ -14,9 +14,8 @@ from ..engine.calling import MOST_AT_ONCE
 from ..engine.operations import Operations
 from ..engine.protocol import LIBRARY
 from ..errors import NoAnswer, Place, PoolEmpty, Refused, Uncommitted, refusal
-from ..ledger import sum_of
 from ..values import records
-from ..values.answers import Commit, shown_as_html
+from ..values.answers import Commit, shown_as_html, sum_of
 
 if TYPE_CHECKING:
     from ..store import Store

@@ -2,16 +2,13 @@
 from __future__ import annotations
 
 import os
-import pathlib
 from collections.abc import Iterable, Mapping
 from inspect import Parameter, signature
 from typing import Any, Callable, NamedTuple, Optional, Tuple, TypeVar
 
 from .advice import Reading
-from .delimited import delimited
 from .feed import STANDARD_INPUT, Columns, Feed, Path, matrix_market, open_text, snap
 from .notations import Notation
-from .objects import from_columns, from_networkx, from_pandas, from_rows
 from ..values.units import Units
 
 F = TypeVar("F", bound=Callable[..., Any])
@@ -86,6 +83,7 @@ class ReadAs(NamedTuple):
             return snap(path, kind=self.columns.usual_kind, third=self.third, encoding=self.encoding)
         if form == "matrix":
             return matrix_market(path, kind=self.columns.usual_kind, encoding=self.encoding)
+        from .delimited import delimited
         return delimited(path, self.columns, delimiter=self.delimiter, header=self.header, encoding=self.encoding)
 
 
@@ -106,6 +104,7 @@ def open_feed(data: Any, **read_as: Any) -> Feed:
 
 
 def _of_object(data: Any, columns: Columns, both_ways: bool) -> Feed:
+    from .objects import from_columns, from_networkx, from_pandas, from_rows
     if hasattr(data, "edges") and hasattr(data, "is_directed"):
         return from_networkx(data, kind=columns.usual_kind, both_ways=both_ways)
     if hasattr(data, "itertuples"):
@@ -122,7 +121,7 @@ def form_of(path: Path, encoding: str) -> str:
     if path == STANDARD_INPUT:
         return "delimited"
     name = os.fspath(path)
-    suffix = pathlib.PurePath(name[:-3] if name.endswith(".gz") else name).suffix
+    suffix = os.path.splitext(name[:-3] if name.endswith(".gz") else name)[1]
     if suffix == ".mtx":
         return "matrix"
     if suffix == ".txt":

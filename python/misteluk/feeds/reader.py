@@ -22,7 +22,7 @@ from ..engine.operations import Operations, Row
 from ..errors import StoreError
 from ..values.answers import Commit
 from ..values.names import NameTable
-from ..values.terms import Terms
+from .terms import Terms
 from ..values.units import Units
 
 NOTHING = Commit(0, 0, 0, 0, 0, 0, 0, 0)

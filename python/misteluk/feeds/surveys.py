@@ -16,11 +16,11 @@ from .opening import ReadAs, reads
 from .progress import Progress, no_collection
 from .rejects import Bin, Rejected, Rejects, rejected
 from .spans import shown_length
+from .terms import Terms
 from ..engine.operations import COMMANDS as OF_COMMANDS, Dictionary, Numbered, Operations
 from ..errors import BadTime, Place, Refused
 from ..values import records
 from ..values.columns import FieldColumn
-from ..values.terms import Terms
 from ..values.units import Units
 
 

@@ -7,7 +7,7 @@ from typing import TYPE_CHECKING, Any, Dict, Optional, Tuple
 from ..values import records
 from ..values.limits import within
 from ..files import whole_text
-from ..engine.finding import Path
+from ..values.texts import Path
 from ..values.names import shown
 from .neighborhood import Neighborhood, Window, gather
 from .page import Page, counted

@@ -10,13 +10,11 @@ from .board import Full
 from .flow import WORD, as_json
 from .limits import TooLarge
 from ..engine.protocol import Denied
-from ..errors import Busy, NoKind, NoMemory, NotAllowed, NoVertex, PoolEmpty, Refused, SessionClosed, StoreError
+from ..errors import TABLE, Refused, StoreError
 
 # What is told of names that a version doesn't have.
 REASONS = {"NoVertex": "the version has no vertex of this name; a later one may",
            "NoKind": "the version has no edge of this kind, and never had; a later one may"}
-# What batches are refused for that were right.
-NO_ROOM = ("PoolEmpty", "NamesFull", "KindsFull", "BatchLimit")
 
 
 def told_fault(fault: Exception, scope: MutableMapping[str, Any]) -> Response:
@@ -37,14 +35,5 @@ def told_fault(fault: Exception, scope: MutableMapping[str, Any]) -> Response:
 
 def _status(fault: Exception) -> Tuple[int, str]:
     word = getattr(fault, "word", "") or type(fault).__name__
-    if isinstance(fault, (NoVertex, NoKind)) or word in ("NoVertex", "NoKind"):
-        return 404, word
-    if isinstance(fault, SessionClosed):
-        return 410, word
-    if isinstance(fault, (Busy, PoolEmpty)) or word in NO_ROOM:
-        return 409, word
-    if isinstance(fault, NoMemory):
-        return 503, word
-    if isinstance(fault, NotAllowed):
-        return 403, word
-    return 400, word if isinstance(fault, (StoreError, Denied)) else "BadRequest"
+    is_known = isinstance(fault, (StoreError, Denied))
+    return TABLE[word].status if is_known and word in TABLE else 400, word if is_known else "BadRequest"

@@ -19,11 +19,10 @@ from ..errors import Busy, SessionClosed, StoreError, refusal
 from ..feeds.apart import Apart
 from ..feeds.feed import parts_of
 from ..feeds.following import Following
-from ..ledger import sum_of
 from ..values import records
-from ..values.answers import Commit
+from ..values.answers import Commit, sum_of
 from ..values.names import is_plain
-from ..values.terms import Terms
+from ..feeds.terms import Terms
 
 # What a client calls an operation, and the command of its record.
 COMMANDS = {"insert": "i", "add": "a", "remove": "r", "expire": "x"}

@@ -5,11 +5,11 @@ import json
 from typing import Any, Callable, Dict, Iterator, List, Mapping, NamedTuple, Optional, Sequence, Tuple
 
 from .limits import ROWS_AT_ONCE
-from ..command.questions import for_json
 from ..page.view import MOST_DRAWN, MOST_HOPS, USUAL_DRAWN, view
 from ..session import Session
 from ..values.answers import BY_COLUMN, Answer, Edge, Values
 from ..values.edges import Edges
+from ..values.texts import for_json
 
 Given = Mapping[str, Any]
 # How a question is answered: at once, or by threads, where one over the whole graph doesn't delay a quick one.

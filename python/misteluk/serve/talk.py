@@ -15,8 +15,7 @@ from . import answers
 from .limits import RUN
 from .server import UNIX
 from ..engine.protocol import Denied
-from ..errors import (Busy, Misread, NoAnswer, NoMemory, NoSeat, NoServer, NotAllowed, SessionClosed, StoreError, TooLarge,
-                      refusal)
+from ..errors import TABLE, Misread, NoAnswer, NoServer, SessionClosed, StoreError, TooLarge, refusal
 from ..feeds.pipes import has_more
 from ..values.answers import Stat
 
@@ -189,10 +188,9 @@ def fault_of(told: Told) -> Exception:
     if found.get("denied"):
         return Denied(word, stat=Stat(**found["stat"]) if "stat" in found else None)
     again = f"; ask again in {told.retry_after} s" if told.retry_after else ""
-    known: Dict[str, Any] = {"NoSeat": NoSeat, "NotAllowed": NotAllowed, "Busy": Busy, "SessionClosed": SessionClosed,
-                             "NoMemory": NoMemory, "TooLong": NoAnswer}
-    if word in known:
-        fault: Exception = known[word](f"{reason}{again}")
+    if word in ("NoSeat", "NotAllowed", "Busy", "SessionClosed", "NoMemory", "TooLong"):
+        kind: Any = NoAnswer if word == "TooLong" else TABLE[word].error
+        fault: Exception = kind(f"{reason}{again}")
         return fault
     if told.status == 400 and word == "BadRequest":
         return ValueError(reason)

@@ -39,6 +39,14 @@ class Commit(NamedTuple):
     expired: int = 0
 
 
+def sum_of(receipts: Sequence[Commit]) -> Commit:
+    """What several batches did, as one: the last one's version, and the sums of the counts."""
+    if len(receipts) == 1:
+        return receipts[0]
+    counts = [sum(column) for column in zip(*(it[1:] for it in receipts))]
+    return Commit(receipts[-1].version, *counts)
+
+
 class Collected(NamedTuple):
     """What a collection did: the floor, how many blocks it freed, and how many stay retired."""
 

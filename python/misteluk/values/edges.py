@@ -10,7 +10,7 @@ from .answers import ROWS_SHOWN, Edge, rows_as_html
 from .arrays import ReadOnlyArray, cut
 from .fields import fields_of_csv, numpy_for
 from .units import Units
-from ..engine.finding import Path
+from .texts import Path
 from ..errors import needed
 from ..files import whole_text
 

@@ -1,12 +1,15 @@
 """Values of Python, numpy and pandas as texts: equal numbers and moments have one text, whatever their type."""
 from __future__ import annotations
 
+import os
 import re
 from datetime import datetime, timedelta, timezone
 from decimal import Decimal
 from numbers import Integral, Real
-from typing import Any, Optional
+from typing import Any, Optional, Union
 
+# A file's path.
+Path = Union[str, "os.PathLike[str]"]
 MINUTE = timedelta(minutes=1)
 # A float that is whole and beyond this is no weight and no time, and is told as it is printed.
 _FAR = 1e19
@@ -58,3 +61,12 @@ def _moment(value: datetime) -> str:
     """A zone whose offset has seconds, which no date has, is told in UTC."""
     offset = value.utcoffset()
     return str(value.astimezone(timezone.utc) if offset and offset % MINUTE else value)
+
+
+def for_json(value: Any) -> Any:
+    """What JSON has no form for: a decimal weight as a text, which keeps all its digits, and a time as a text of ISO 8601."""
+    if isinstance(value, Decimal):
+        return str(value)
+    if isinstance(value, datetime):
+        return value.isoformat()
+    raise TypeError(f"{type(value).__name__} has no form in JSON")

@@ -3,15 +3,15 @@ from __future__ import annotations
 
 from typing import Callable, Collection, Dict, List, Optional, Sequence, Set, Tuple
 
-from . import records
-from ..errors import Refused, refusal
+from .advice import advice_for
+from .feed import Block
 from ..engine.operations import Row, fields_of, row_of
 from ..engine.protocol import Denied
-from ..feeds.advice import advice_for
-from ..feeds.feed import Block
-from .names import MARK, NameTable, text_reason
-from .records import Fault
-from .units import PLAIN, Units
+from ..errors import Refused, refusal
+from ..values import records
+from ..values.names import MARK, NameTable, text_reason
+from ..values.records import Fault
+from ..values.units import PLAIN, Units
 
 _WORDS: Dict[str, str] = {**dict.fromkeys(records.NAME_FIELDS, "BadName"), **dict.fromkeys(records.WEIGHT_FIELDS, "BadWeight"),
                           **dict.fromkeys(records.TIME_FIELDS, "BadTime")}
