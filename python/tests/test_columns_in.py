@@ -191,6 +191,34 @@ class Tables(Case):
                 plain, fast = self.both(data, **UNITS[at % len(UNITS)])
                 self.assertEqual(fast, plain, (place, at))
 
+    def test_dates_of_each_unit(self):
+        """With one that is none, is before 1970, ends a year that no date has, or is finer than a microsecond."""
+        whole = numpy.array(["2024-03-05T00:00"] * ROWS, dtype="datetime64[us]")
+        for unit in ("D", "h", "m", "s", "ms", "us", "ns", "M", "25s"):
+            for strange in (None, "NaT", "1969-12-31", "2262-04-11" if unit == "ns" else "9999-12-31",
+                            "2262-04-11" if unit == "ns" else "10000-01-01", 1):
+                dates = whole.astype(f"datetime64[{unit}]")
+                if strange == 1:
+                    dates[3] += 1
+                elif strange:
+                    dates[3] = numpy.datetime64(strange)
+                data = {"source": ["a"] * ROWS, "target": ["b"] * ROWS, "kind": ["k"] * ROWS, "weight": [1] * ROWS, "time": dates}
+                for options in ({}, {"times": "iso"}):
+                    plain, fast = self.both(data, **options)
+                    self.assertEqual(fast, plain, (unit, strange, options))
+
+    def test_categoricals_in_which_values_are_missing(self):
+        """Such a row is bad, and no category stands for it; one that no row has is no name."""
+        for place in ("source", "kind"):
+            for missing in ((), (3,), (0, 20, 59)):
+                values = pandas.Series([None if it in missing else "ab"[it % 2] for it in range(ROWS)])
+                column = values.astype(pandas.CategoricalDtype(["z", "b", "a", "last"]))
+                data = {"source": ["s"] * ROWS, "target": ["t"] * ROWS, "kind": ["k"] * ROWS, "weight": [1] * ROWS,
+                        "time": [0] * ROWS, place: column}
+                plain, fast = self.both(data)
+                self.assertEqual(fast, plain, (place, missing))
+                self.assertEqual((fast[0][3], fast[0][5]), (3 if place == "source" else 2, len(missing)))
+
     def test_they_are_taken_at_once(self):
         """No text is made of rows that are right: only of each name."""
         count, asked = 3_000, []
