@@ -14,9 +14,10 @@ import importlib
 from typing import TYPE_CHECKING, Any, Dict, List
 
 from .errors import (AlreadyOpen, BadCommand, BadFields, BadName, BadRows, BadSlot, BadTime, BadWeight, BadWindow, BatchFull,
-                     BatchLimit, Busy, FeedFault, KindsFull, LeftOut, LibraryNotFound, Misread, Missing, NamesFull, NoAnswer,
-                     NoKind, NoMemory, NoSeat, NoServer, NotAllowed, NotOpen, NoVertex, OverLimit, Place, PoolEmpty,
-                     ProgramNotFound, Refused, SaveFault, SessionClosed, StoreError, TooLarge, Uncommitted)
+                     BatchLimit, Busy, FeedFault, JournalError, JournalFault, KindsFull, LeftOut, LibraryNotFound, Locked,
+                     Misread, Missing, NamesFull, NoAnswer, NoKind, NoMemory, NoSeat, NoServer, NotAllowed, NotOpen, NotWritten,
+                     NoVertex, OverLimit, Place, PoolEmpty, ProgramNotFound, ReadOnly, Refused, SaveFault, SequenceTaken,
+                     SessionClosed, StoreError, TooLarge, Uncommitted)
 from .session import Session
 from .store import Store
 from .values.answers import Answer, Collected, Commit, Components, Degree, Edge, Neighbor, Rebased, Renewed, Stat
@@ -61,9 +62,10 @@ __all__ = [
     "Saved", "Stat", "view", "View",
     "find_library", "find_program",
     "StoreError", "Refused", "Place", "AlreadyOpen", "BadCommand", "BadFields", "BadName", "BadRows", "BadSlot", "BadTime",
-    "BadWeight", "BadWindow", "BatchFull", "BatchLimit", "Busy", "FeedFault", "KindsFull", "LeftOut", "LibraryNotFound",
-    "Misread", "Missing", "NamesFull", "NoAnswer", "NoKind", "NoMemory", "NoSeat", "NoServer", "NoVertex", "NotAllowed",
-    "NotOpen", "OverLimit", "PoolEmpty", "ProgramNotFound", "SaveFault", "SessionClosed", "TooLarge", "Uncommitted",
+    "BadWeight", "BadWindow", "BatchFull", "BatchLimit", "Busy", "FeedFault", "JournalError", "JournalFault", "KindsFull",
+    "LeftOut", "LibraryNotFound", "Locked", "Misread", "Missing", "NamesFull", "NoAnswer", "NoKind", "NoMemory", "NoSeat",
+    "NoServer", "NoVertex", "NotAllowed", "NotOpen", "NotWritten", "OverLimit", "PoolEmpty", "ProgramNotFound", "ReadOnly",
+    "SaveFault", "SequenceTaken", "SessionClosed", "TooLarge", "Uncommitted",
 ]
 
 

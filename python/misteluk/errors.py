@@ -241,6 +241,40 @@ class SaveFault(StoreError):
     """A file is no saved version, or isn't as it was written. Nothing of it is restored."""
 
 
+class JournalError(StoreError):
+    """What a store's file has to do with. What was to be committed isn't in the store, and is pending still."""
+
+
+class NotWritten(JournalError):
+    """A batch couldn't be written to the store's file, as where the disk is full or the file is gone. What was there is there,
+    and sessions answer."""
+
+
+class JournalFault(JournalError):
+    """A store's file isn't as it was written, or a sync of it failed; the text says which. Nothing more is written to it until it
+    is opened again. `whole` is the last version that can be had (see `Store.at`), or `None` where that isn't known."""
+
+    def __init__(self, text: str, whole: Optional[int] = None) -> None:
+        self.whole = whole
+        super().__init__(text)
+
+
+class Locked(JournalError):
+    """Another process writes the store's file; the text says which."""
+
+
+class SequenceTaken(JournalError):
+    """A producer sent another batch by this number before, or a later one. `last` is the producer's last number."""
+
+    def __init__(self, text: str, last: int) -> None:
+        self.last = last
+        super().__init__(text)
+
+
+class ReadOnly(JournalError):
+    """A store as of a version takes no batches."""
+
+
 class ProgramNotFound(StoreError):
     """There is no program `stinger`."""
 

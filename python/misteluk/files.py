@@ -103,7 +103,7 @@ def whole(path: Path) -> "Iterator[BinaryIO]":
             file.flush()
             os.fsync(file.fileno())
         os.replace(beside, place)
-        _keep_folder(os.path.dirname(place))
+        keep_folder(os.path.dirname(place))
     except BaseException as fault:
         with contextlib.suppress(OSError):
             os.remove(beside)
@@ -122,7 +122,7 @@ def whole_text(path: Path) -> "Iterator[TextIO]":
         file.detach()
 
 
-def _keep_folder(folder: str) -> None:
+def keep_folder(folder: str) -> None:
     """Puts on the disk which files a folder has: else the old one may be there again behind a crash."""
     opened = os.open(folder, os.O_RDONLY | os.O_DIRECTORY)
     try:

@@ -8,18 +8,22 @@ from __future__ import annotations
 
 from typing import Any, Dict, List, NamedTuple, Optional, Sequence, Tuple
 
+from .engine.calling import MOST_AT_ONCE
 from .engine.guard import FORKS, Guard, alone
-from .engine.operations import COMMANDS, EXPIRE, REMOVE, Operations, Row
+from .engine.operations import COMMANDS, EXPIRE, REMOVE, Operations, Post, Row
 from .engine.protocol import Denied, Engine, Flight
-from .errors import Busy, PoolEmpty, Refused, SessionClosed, StoreError, TooLarge, refusal
+from .errors import Busy, JournalError, PoolEmpty, Refused, SessionClosed, StoreError, TooLarge, refusal
 from .values import records
 from .values.answers import Commit, Stat, sum_of
+from .values.limits import within
 from .values.names import must_be_texts
 from .feeds.terms import Terms
 from .values.texts import text_of
 from .values.units import Units
 
 
+# What says that a batch is not on its way.
+NOT_ON_ITS_WAY = Busy, SessionClosed, JournalError
 # What a store takes of a feed: its terms and kinds.
 Feed = Tuple[Terms, Sequence[str]]
 
@@ -143,6 +147,20 @@ class Ledger:
     # Batches.
 
     @alone
+    def post(self, collect: bool, post: Post) -> Commit:
+        """Applies what is pending now as one batch, once for each number of a producer, and gives what that did. A caller puts
+        `telling` into `taken`, as of `commit`."""
+        if self.is_closed:
+            raise StoreError("the store is closed")
+        self._forget_taken()
+        self.telling = ()
+        self._land()
+        within("operations of a numbered commit", len(self.pending), 0, MOST_AT_ONCE)
+        done = self._fly(Operations(self.pending[:], post=post), collect, True)
+        self.telling = tuple([it for it in self._books.untold if it.version == done.version])
+        return done
+
+    @alone
     def commit(self, collect: bool, batch: int) -> Commit:
         """Applies what is pending now, and gives the sum of what was applied and not told yet; where a batch is refused the error
         has it. A caller puts `telling`, of which that is the sum, into `taken` as the last thing it does: then it was told."""
@@ -199,10 +217,10 @@ class Ledger:
         self._land()
 
     @alone
-    def begin_anew(self) -> None:
-        """Takes in that the store's last version is 0 now: so is that of what wasn't told yet."""
+    def begin_anew(self, version: int) -> None:
+        """Takes in that the store's last version has this number now: so has that of what wasn't told yet."""
         self._forget_taken()
-        self._books = self._books._replace(untold=tuple([it._replace(version=0) for it in self._books.untold]))
+        self._books = self._books._replace(untold=tuple([it._replace(version=version) for it in self._books.untold]))
 
     @alone
     def end(self) -> None:
@@ -210,6 +228,7 @@ class Ledger:
         self.is_closed = True
 
     def _fly(self, batch: Operations, collect: bool, of_pending: bool, feed: Optional[Feed] = None) -> Commit:
+        batch.terms = None if feed is None else feed[0]
         flight = self.engine.flight(batch, collect)
         self._books = Books(self._books.untold, flight, of_pending, feed)
         try:
@@ -217,7 +236,7 @@ class Ledger:
         except Denied as fault:
             self._books = self._books._replace(flight=None)
             raise self._refused(fault, batch, of_pending) from None
-        except (Busy, SessionClosed):  # (it isn't on its way: nothing was sent, or nobody answers it any more, as is told)
+        except NOT_ON_ITS_WAY:  # (nothing was sent, or nobody answers it any more, as is told)
             self._books = self._books._replace(flight=None)
             raise
         return self._book(flight, receipt)
@@ -232,7 +251,7 @@ class Ledger:
         except Denied as fault:
             self._books = self._books._replace(flight=None)
             raise self._refused(fault, flight.batch, self._books.of_pending) from None
-        except SessionClosed:  # (as above)
+        except NOT_ON_ITS_WAY:  # (as above)
             self._books = self._books._replace(flight=None)
             raise
         if receipt is None and not flight.cut:

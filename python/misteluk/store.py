@@ -9,25 +9,29 @@ from decimal import Decimal
 from itertools import chain
 from types import TracebackType
 from typing import (TYPE_CHECKING, Any, Callable, Dict, Generic, Iterator, List, Literal, Optional, Sequence, Tuple, Type,
-                    TypedDict, TypeVar, overload)
+                    TypeVar, overload)
 
-from .values.texts import Path
-from .engine.guard import noting
+from .engine.guard import Uncopied, noting
 from .engine.library import LibraryEngine
 from .engine.operations import ADD, EXPIRE, INSERT, REMOVE
 from .engine.protocol import Denied, Engine
-from .feeds.opening import reads
 from .errors import NoSeat, PoolEmpty, Refused, StoreError, Uncommitted
+from .feeds.opening import reads
+from .journal.engine import AsOf, Journaled
+from .journal.file import StoreFile
+from .journal.opening import When, open_at, open_journal, take_over, units_of
 from .ledger import Ledger
 from .session import Session
 from .values import records
 from .values.answers import Collected, Commit, Rebased, Renewed, Stat, T, W, shown_as_html
 from .values.limits import Limits, within
+from .values.texts import Path
 from .values.units import Amount, Moment, Units
 
 if TYPE_CHECKING:
     from typing_extensions import Unpack
 
+    from .options import Beside, OfStore, Plain
     from .feeds.following import Following
     from .feeds.spans import Span
     from .feeds.loading import Loaded
@@ -35,23 +39,7 @@ if TYPE_CHECKING:
 R = TypeVar("R")
 
 
-class Beside(TypedDict, total=False):
-    """The options of a store that have no part in what its weights and times are."""
-
-    rounding: Optional[str]
-    blocks: Optional[int]
-    limits: Optional[Limits]
-    seats: int
-    endless: bool
-
-
-class OfStore(Beside, total=False):
-    """The same, and how weights are told."""
-
-    decimals: str
-
-
-class Store(Generic[W, T]):
+class Store(Uncopied, Generic[W, T]):
     """A graph that changes by batches; sessions hold versions of it.
 
         with Store() as store:
@@ -61,7 +49,10 @@ class Store(Generic[W, T]):
                 print(session.degrees("transfer"))
 
     `insert`, `add` and `remove` are collected here and checked at once; `commit` applies them. Where a commit is refused, what
-    it would have applied is pending still. The graph lives as long as the store, but for versions that sessions save as files.
+    it would have applied is pending still. The graph lives as long as the store, but for versions that sessions save as files,
+    or in the store's own file: `Store("graph.db")` makes it or goes on with it, and every batch is in it before anybody sees it
+    (docs/DURABLE.md). Its units and limits hold without being said again. `sync="full"` has each batch on the disk before
+    `commit` returns; with "normal" or "off" a loss of power may cost the last ones.
 
     The store is a library's, in this process: `LibraryNotFound` where it can't be loaded.
 
@@ -84,45 +75,56 @@ class Store(Generic[W, T]):
     next call. A fork can't use the store, and it has no copy.
     """
 
+    _is_closed = True
+
     @overload
-    def __init__(self: "Store[int, int]", *, weight_scale: Literal[1], times: Optional[Literal["number"]] = None,
+    def __init__(self: "Store[int, int]", path: Optional[Path] = None, *, weight_scale: Literal[1], times: "Plain" = None,
                  **options: "Unpack[OfStore]") -> None: ...
 
     @overload
-    def __init__(self: "Store[int, int]", *, weight_scale: Optional[Literal[1]] = None, times: Literal["number"],
-                 **options: "Unpack[OfStore]") -> None: ...
+    def __init__(self: "Store[int, int]", path: Optional[Path] = None, *, weight_scale: Optional[Literal[1]] = None,
+                 times: Literal["number"], **options: "Unpack[OfStore]") -> None: ...
 
     @overload
-    def __init__(self: "Store[int, datetime]", *, weight_scale: Optional[Literal[1]] = None, times: Literal["iso"],
-                 **options: "Unpack[OfStore]") -> None: ...
+    def __init__(self: "Store[int, datetime]", path: Optional[Path] = None, *, weight_scale: Optional[Literal[1]] = None,
+                 times: Literal["iso"], **options: "Unpack[OfStore]") -> None: ...
 
     @overload
-    def __init__(self: "Store[float, int]", *, weight_scale: int, times: Optional[Literal["number"]] = None,
+    def __init__(self: "Store[float, int]", path: Optional[Path] = None, *, weight_scale: int, times: "Plain" = None,
                  decimals: Literal["float"], **options: "Unpack[Beside]") -> None: ...
 
     @overload
-    def __init__(self: "Store[float, datetime]", *, weight_scale: int, times: Literal["iso"], decimals: Literal["float"],
-                 **options: "Unpack[Beside]") -> None: ...
+    def __init__(self: "Store[float, datetime]", path: Optional[Path] = None, *, weight_scale: int, times: Literal["iso"],
+                 decimals: Literal["float"], **options: "Unpack[Beside]") -> None: ...
 
     @overload
-    def __init__(self: "Store[Decimal, int]", *, weight_scale: int, times: Optional[Literal["number"]] = None,
+    def __init__(self: "Store[Decimal, int]", path: Optional[Path] = None, *, weight_scale: int, times: "Plain" = None,
                  decimals: Literal["decimal"] = "decimal", **options: "Unpack[Beside]") -> None: ...
 
     @overload
-    def __init__(self: "Store[Decimal, datetime]", *, weight_scale: int, times: Literal["iso"],
+    def __init__(self: "Store[Decimal, datetime]", path: Optional[Path] = None, *, weight_scale: int, times: Literal["iso"],
                  decimals: Literal["decimal"] = "decimal", **options: "Unpack[Beside]") -> None: ...
 
     @overload
-    def __init__(self: "Store[Any, Any]", *, weight_scale: Optional[int] = None, times: Optional[str] = None,
-                 **options: "Unpack[OfStore]") -> None: ...
+    def __init__(self: "Store[Any, Any]", path: Optional[Path] = None, *, weight_scale: Optional[int] = None,
+                 times: Optional[str] = None, **options: "Unpack[OfStore]") -> None: ...
 
-    def __init__(self, *, weight_scale: Optional[int] = None, times: Optional[str] = None, decimals: str = "decimal",
-                 rounding: Optional[str] = None, blocks: Optional[int] = None, limits: Optional[Limits] = None,
-                 seats: int = records.USUAL_SEATS, endless: bool = False) -> None:
-        self._is_closed = True
+    def __init__(self, path: Optional[Path] = None, *, weight_scale: Optional[int] = None, times: Optional[str] = None,
+                 decimals: str = "decimal", rounding: Optional[str] = None, blocks: Optional[int] = None,
+                 limits: Optional[Limits] = None, seats: int = records.USUAL_SEATS, endless: bool = False,
+                 sync: str = "full") -> None:
         units = Units(1 if weight_scale is None else weight_scale, times or "number", decimals, rounding).checked()
-        self._begin(LibraryEngine(blocks, seats, endless, limits or Limits()), units,
-                    weight_scale is not None or times is not None)
+        if path is None:
+            are_set = weight_scale is not None or times is not None
+            self._begin(LibraryEngine(blocks, seats, endless, limits or Limits()), units, are_set)
+        else:
+            self._begin_with(open_journal(path, sync=sync, blocks=blocks, seats=seats, endless=endless, limits=limits,
+                                          weight_scale=weight_scale, times=times), decimals, rounding)
+
+    def _begin_with(self, engine: "Journaled | AsOf", decimals: str, rounding: Optional[str]) -> None:
+        """Begins with what a file has."""
+        self._begin(engine, units_of(engine.settings, decimals, rounding), engine.settings.times is not None)
+        take_over(engine, self.ledger)
 
     def _begin(self, engine: Engine, units: Units, units_are_set: bool) -> None:
         """Begins with an engine's empty store, or with that of a server."""
@@ -147,10 +149,8 @@ class Store(Generic[W, T]):
         self.ledger.keep(REMOVE, kind, source, target, 0, 0)
 
     def expire(self, time: Moment) -> None:
-        """Takes away each edge whose recent time is before this time; the receipt of `commit` counts them.
-
-        Its batch asks for as many free blocks more as are used.
-        """
+        """Takes away each edge whose recent time is before this time; the receipt of `commit` counts them. Its batch asks for as
+        many free blocks more as are used."""
         self.ledger.keep(EXPIRE, "", "", "", 0, time)
 
     @property
@@ -179,16 +179,23 @@ class Store(Generic[W, T]):
         """Lets the pending operations go, and returns how many they were; those that are on their way stay."""
         return self.ledger.discard()
 
-    def commit(self, *, collect: bool = True, batch: int = records.MOST_OPERATIONS) -> Commit:
+    def commit(self, *, collect: bool = True, batch: int = records.MOST_OPERATIONS, producer: Optional[str] = None,
+               sequence: Optional[int] = None) -> Commit:
         """Applies the pending operations, in batches of at most `batch` (4,096 at most), and also where there are none.
 
         A collection follows each batch, as in a load, unless `collect=False`. A refused batch changes nothing, and stays pending
         with those after it: `PoolEmpty`, `NamesFull`, `KindsFull`, `BatchLimit` say why, and have as `applied` what the batches
         before it did. Where an interrupt broke a commit off, a batch that was begun is applied once, and those after it
         stay pending; the next commit has in its sums what wasn't told.
+
+        With `producer` and `sequence`, a number that grows, a store that has a file applies what is pending, at most 65,536
+        operations, as one batch and once: the same commit again gets the first one's answer, over restarts too.
         """
         try:
-            done = self.ledger.commit(collect, within("batch", batch, 1, records.MOST_OPERATIONS))
+            if producer is None and sequence is None:
+                done = self.ledger.commit(collect, within("batch", batch, 1, records.MOST_OPERATIONS))
+            else:
+                done = self.ledger.post(collect, self.file.post(producer, sequence))
         except Refused:
             told = noting(self.ledger.taken.append, self.ledger.telling)
             None in told
@@ -232,6 +239,16 @@ class Store(Generic[W, T]):
         def make(found: int, weight_scale: Optional[int], times: Optional[str]) -> "Store[Any, Any]":
             return cls(blocks=found, weight_scale=weight_scale, times=times, **options)
         return restore(path, make, blocks, progress)
+
+    @classmethod
+    def at(cls, path: Path, *, version: Optional[int] = None, time: "Optional[When]" = None, decimals: str = "decimal",
+           seats: int = records.USUAL_SEATS) -> "Store[Any, Any]":
+        """What a store's file held as of a version, or of a time (a date, or microseconds since 1970): the last version that was
+        written by then. It is only read (`ReadOnly`), also while another process writes the file. `ValueError` says that the file
+        has no such version, or not any more, and `JournalFault` that it isn't as it was written."""
+        store = cls.__new__(cls)
+        store._begin_with(open_at(path, version, time, seats), decimals, None)
+        return store
 
     # Requests.
 
@@ -287,7 +304,7 @@ class Store(Generic[W, T]):
             text = f"a copy of version {session.version} finds no room in {self.blocks} blocks, and nothing was changed"
             advice = "Save the session, and restore it with more blocks"
             raise PoolEmpty(needed=self.blocks + 1, free=None, text=text, advice=advice) from None
-        self.ledger.begin_anew()
+        self.ledger.begin_anew(done.version)
         told = noting(setattr, self, "_rebasing", None)
         None in told
         return done
@@ -300,6 +317,12 @@ class Store(Generic[W, T]):
         self.ledger.settle()
         self._renewals.append(self.engine.renew())
         return self._renewals[-1]
+
+    @property
+    def file(self) -> StoreFile:
+        """The file of a store that has one: `compact`, `last_sequence`, `recovered`. Else raises `StoreError`."""
+        self.ledger.settle()
+        return StoreFile(self.engine)
 
     @property
     def renewals(self) -> List[Renewed]:
@@ -347,15 +370,6 @@ class Store(Generic[W, T]):
         self.engine.close()
         self._is_closed = True
 
-    def __copy__(self) -> Any:
-        raise TypeError("a store has no copy: save a session, and restore the file")
-
-    def __deepcopy__(self, _: Any) -> Any:
-        return self.__copy__()
-
-    def __reduce__(self) -> Any:
-        raise TypeError("a store isn't pickled: save a session, and restore the file")
-
     def __enter__(self) -> "Store[W, T]":
         return self
 
@@ -369,7 +383,7 @@ class Store(Generic[W, T]):
         self in told  # (it makes both)
 
     def __del__(self) -> None:
-        if not getattr(self, "_is_closed", True) and not sys.is_finalizing() and not self.engine.is_elsewhere:
+        if not self._is_closed and not sys.is_finalizing() and not self.engine.is_elsewhere:
             warnings.warn("a store was let go without close()", ResourceWarning, stacklevel=2)
 
     def _repr_html_(self) -> str:

@@ -90,6 +90,7 @@ class Documents(Case):
         self.assertGreater(self.conversations(TUTORIAL), 25)
         self.assertGreater(self.conversations(TOP / "README.md"), 1)
         self.assertGreater(self.conversations(TOP / "docs/PYTHON.md"), 5)
+        self.assertGreater(self.conversations(TOP / "docs/DURABLE.md"), 3)
 
     def test_the_commands_of_other_pages(self):
         self.assertGreater(self.run_commands(TOP / "docs/PYTHON.md"), 0)
@@ -106,7 +107,7 @@ class Documents(Case):
                        stdout=subprocess.DEVNULL, stderr=subprocess.DEVNULL, timeout=60, check=True)
         for it in ("TUTORIAL", "PYTHON", "USING"):
             self.run_commands(TOP / f"docs/{it}.md")
-        for it in ("docs/TUTORIAL.md", "docs/PYTHON.md", "README.md"):
+        for it in ("docs/TUTORIAL.md", "docs/PYTHON.md", "docs/DURABLE.md", "README.md"):
             self.conversations(TOP / it)
         left = sorted(set(os.listdir(self.room)) - before)
         self.assertTrue({"funnel.html", "script.csv", "bank.csv", "bank.csv.gz"} <= set(left), left)

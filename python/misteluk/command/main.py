@@ -1,4 +1,4 @@
-"""What `misteluk` does: load, restore, follow, serve, view, doctor."""
+"""What `misteluk` does: load, restore, follow, serve, at, log, check, compact, view, doctor."""
 from __future__ import annotations
 
 import argparse
@@ -10,7 +10,7 @@ import warnings
 from contextlib import contextmanager, suppress
 from typing import Any, Dict, Iterator, List, Optional
 
-from . import around, doctor, follow as telling, serve
+from . import around, doctor, file, follow as telling, serve
 
 from .. import files
 
@@ -76,6 +76,17 @@ def run_restore(words: argparse.Namespace) -> int:
     with Store.restore(words.file, blocks=words.blocks) as store:
         stat = store.stat()
         print(f"{words.file}: {size_of(stat.names, stat.edges)} restored in {stat.used} of {store.blocks} blocks", flush=True)
+        do_then(words, store)
+    return 0
+
+
+def run_at(words: argparse.Namespace) -> int:
+    """Asks a version that a store's file has."""
+    must_be_place(words.save)
+    must_be_place(words.edges)
+    with Store.at(words.file, version=words.version, time=words.time) as store:
+        stat = store.stat()
+        print(f"{words.file}: {size_of(stat.names, stat.edges)} as of version {stat.version}", flush=True)
         do_then(words, store)
     return 0
 
@@ -195,7 +206,7 @@ def main(words: Optional[List[str]] = None) -> int:
         if isinstance(it, io.TextIOWrapper):  # (a name that the terminal has no signs for)
             it.reconfigure(errors="backslashreplace")
     try:
-        run = {"load": run_load, "restore": run_restore, "follow": run_follow, "serve": run_serve,
+        run = {"load": run_load, "restore": run_restore, "follow": run_follow, "serve": run_serve, "at": run_at, **file.RUN,
                "view": run_view, "doctor": run_doctor}
         status = run[parsed.command](parsed)
         if sys.stdout:

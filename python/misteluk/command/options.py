@@ -4,7 +4,7 @@ from __future__ import annotations
 import argparse
 from typing import Any, Optional
 
-from . import around, serve
+from . import around, file, serve
 
 from ..values import records
 from ..values.answers import BY_COLUMN
@@ -158,6 +158,15 @@ def add_serve(parser: argparse.ArgumentParser) -> None:
     serve.add_options(parser)
 
 
+def add_at(at: argparse.ArgumentParser) -> None:
+    at.add_argument("file", help="a store's file")
+    which = at.add_mutually_exclusive_group(required=True)
+    which.add_argument("--version", type=int, metavar="N", help="the version that is asked")
+    which.add_argument("--time", metavar="TIME", help="the last version that was written by this date, as 2024-05-01 or "
+                       "2024-05-01T12:00:00+02:00")
+    add_what_then(at, at.add_argument_group("what then"))
+
+
 def add_view(page: argparse.ArgumentParser) -> None:
     add_feed_options(page, saved="; or one that --save wrote, without --set or --add")
     page.add_argument("-o", "--output", required=True, metavar="PAGE", help="a name that ends in .html")
@@ -183,6 +192,8 @@ def make_parser() -> argparse.ArgumentParser:
     add_restore(commands.add_parser("restore", help="make a store of a saved file, and ask"))
     add_follow(commands.add_parser("follow", help="load a file that grows, or standard input, as it comes; Ctrl-C ends it"))
     add_serve(commands.add_parser("serve", help="serve a live graph over HTTP: one feed, and many who ask; Ctrl-C ends it"))
+    add_at(commands.add_parser("at", help="ask a store's file as of a version or a time; it may be written meanwhile"))
+    file.add_commands(commands)
     commands.add_parser("doctor", help="tell which library is loaded, where it is, whether it was proved, and its limits")
     add_view(commands.add_parser("view", help="make a page of a vertex's neighborhood in a file's graph"))
     return parser

@@ -140,3 +140,16 @@ def alone(method: F) -> F:
             finally:
                 guard.holder = None
     return cast(F, call)
+
+
+class Uncopied:
+    """What has no copy, as the store of a process."""
+
+    def __copy__(self) -> Any:
+        raise TypeError("a store has no copy: save a session, and restore the file")
+
+    def __deepcopy__(self, _: Any) -> Any:
+        return self.__copy__()
+
+    def __reduce__(self) -> Any:
+        raise TypeError("a store isn't pickled: save a session, and restore the file")

@@ -14,7 +14,7 @@ import struct
 import time
 import weakref
 from ctypes import c_uint64
-from typing import Any, Dict, Iterable, List, Optional, Sequence, Tuple
+from typing import Any, Callable, Dict, Iterable, List, Optional, Sequence, Tuple
 
 from . import interface
 from .calling import MOST_AT_ONCE, WORDS, Known, LibraryFlight, check, fill, opened, refusal_of
@@ -53,7 +53,7 @@ class LibraryEngine:
         within("seats", seats, 1, records.MOST_SEATS)
         self.path = find_library(library)
         self.library, self.handles = opened(self.path)
-        self.grows, self.limits, self.seats, self._endless = blocks is None, limits.checked(), seats, endless
+        self.grows, self.limits, self.seats, self.endless = blocks is None, limits.checked(), seats, endless
         self.is_closed = False
         self.guard = self._guard = Guard()
         self._held: "Dict[int, weakref.ref[LibraryVersion]]" = {}
@@ -61,6 +61,8 @@ class LibraryEngine:
         # The handle of a batch that was applied, and so has no operation: the next one takes it.
         self._empty: List[Owned] = []
         self._freed = c_uint64()
+        # What is called before an endless one drops names and kinds; where it raises, they stay.
+        self.before_drop: Callable[[], object] = lambda: None
         # (an endless one has few vertices at first, so that it lets those go that have no edge, before it takes many)
         is_plain = limits.vertices is limits.kinds is None
         self._opening = self._new(0, blocks or FIRST_BLOCKS, limits.shape(0, MOST_KINDS if endless and is_plain else 0))
@@ -193,7 +195,7 @@ class LibraryEngine:
         if is_short and not is_crowded:
             raise Denied("PoolEmpty", stat=stat)
         content, shape = self._content(opening), opening.shape
-        if is_crowded and self._endless:
+        if is_crowded and self.endless:
             content = content.without_idle_names()
         vertices, kinds = _wanted(flight, content.names, content.kinds)
         if not self._has_room(shape, vertices, kinds):
@@ -204,6 +206,8 @@ class LibraryEngine:
             shape = self.limits.shape(vertices, kinds)
         if is_short:
             raise Denied("PoolEmpty", stat=stat)
+        if is_crowded and self.endless:
+            self.before_drop()
         moved = self._copy(content, opening.number, blocks, shape)
         check(self.library.desk_apply(moved.desk.raw, flight.owned.raw, flight.counts))
         return moved._replace(flying=flight)
@@ -269,6 +273,11 @@ class LibraryEngine:
             return self._hold(opening, -1)
 
     @alone
+    def hold_apart(self) -> LibraryVersion:
+        """Holds the last version, and takes no seat of the store's."""
+        return self._last(self._settle())
+
+    @alone
     def release(self, version: LibraryVersion) -> None:
         held = self._held.get(version.slot)
         if self.is_closed or not (version.is_open or held is not None and held() is version):
@@ -276,6 +285,12 @@ class LibraryEngine:
         version.end()
         if held is not None and held() is version:
             del self._held[version.slot]
+        self._settle()
+
+    @alone
+    def close_versions(self) -> None:
+        """Closes all versions that are held."""
+        self._close_versions(self._versions)
         self._settle()
 
     def _close_versions(self, versions: "Sequence[weakref.ref[LibraryVersion]]") -> None:
@@ -308,6 +323,19 @@ class LibraryEngine:
             at += part.size
         check(self.library.desk_rebase(opening.desk.raw))
         return opening
+
+    @alone
+    def drop_idle_names(self) -> None:
+        """Drops names and kinds that have no edge. The version's number stays."""
+        opening = self._settle()
+        content = self._content(opening).without_idle_names()
+        self._opening = self._copy(content, opening.number, opening.blocks, opening.shape)
+
+    @alone
+    def count_from(self, number: int) -> None:
+        """Counts versions on from this number, which the last one has from now on. Nobody holds one yet."""
+        opening = self._begin_anew(self._settle())
+        self._opening = opening._replace(before=number, number=number, kept=0)
 
     def _content(self, opening: Opening) -> Content:
         """What the last version holds."""

@@ -8,10 +8,13 @@ from array import array
 from collections import defaultdict, deque
 from itertools import accumulate, count, islice
 from operator import itemgetter
-from typing import Any, Callable, DefaultDict, Dict, Iterable, List, NamedTuple, Optional, Sequence, Tuple
+from typing import TYPE_CHECKING, Any, Callable, DefaultDict, Dict, Iterable, List, NamedTuple, Optional, Sequence, Tuple
 
 from ..errors import Place
 from ..values import records
+
+if TYPE_CHECKING:
+    from ..feeds.terms import Terms
 
 # What an operation does, as the C interface numbers it; and the commands of records, by that number.
 INSERT, ADD, REMOVE, EXPIRE = range(4)
@@ -115,12 +118,28 @@ class Numbered(NamedTuple):
         return list(rows)
 
 
+class Post(NamedTuple):
+    """Whose batch it is, and its number there: the same one is sent again until its answer came, and is applied once."""
+
+    producer: str
+    sequence: int
+
+    def checked(self) -> "Post":
+        """Itself; raises `ValueError` where a producer has no name, or a number is none from 0 to 2^63 - 1."""
+        if not self.producer or not 0 <= self.sequence <= records.MOST_TIME:
+            raise ValueError("a commit that is applied once has a producer's name and a sequence from 0 to 2^63 - 1, and not "
+                             f"{self.producer!r} and {self.sequence}")
+        return self
+
+
 class Operations:
-    """Operations that go in together, as rows or as columns, and where each came from, by its place."""
+    """Operations that go in together, as rows or as columns, and where each came from, by its place. `post` says whose batch it
+    is where it is to be applied once, and `terms` the names and units of a feed whose first batch it is."""
 
     def __init__(self, rows: Optional[Sequence[Row]] = None, columns: Optional[Numbered] = None,
-                 place: Optional[Callable[[int], Place]] = None) -> None:
-        self._rows, self._columns, self.place = rows, columns, place
+                 place: Optional[Callable[[int], Place]] = None, post: Optional[Post] = None) -> None:
+        self._rows, self._columns, self.place, self.post = rows, columns, place, post
+        self.terms: "Optional[Terms]" = None
         self.size = len(rows) if rows is not None else len(columns.codes) if columns else 0
 
     @property

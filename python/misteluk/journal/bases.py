@@ -1,0 +1,150 @@
+"""Bases: a version as columns, in parts of a megabyte, with a digest; and an engine that is filled from one.
+
+    kind_text, vertex_text     the names one after another, in their order
+    kind_ends, vertex_ends     where each ends, as 8 bytes
+    kinds, sources, targets    each edge's, by number, as 4 bytes
+    weights, firsts, recents   each edge's, as 8 bytes; weights have a sign
+    texts                      JSON: the texts of ids
+    producers                  JSON: of each producer its last sequence, that batch's version and digest, and what it did
+
+Numbers are little-endian.
+"""
+from __future__ import annotations
+
+import json
+import sqlite3
+import sys
+from array import array
+from itertools import accumulate
+from typing import Dict, Iterator, List, Mapping, NamedTuple, Sequence, Tuple
+
+from .tables import digest
+from ..engine.calling import MOST_AT_ONCE
+from ..engine.library import LibraryEngine
+from ..engine.operations import INSERT, REMOVE, Encoded, Numbered, Operations
+from ..engine.protocol import WHOLE, Arrays, Held
+from ..errors import JournalFault
+from ..values.answers import Commit
+from ..values.records import BLOCK_EDGES
+
+PART = 1 << 20
+ENDS = "Q"
+OF_EDGES = dict(zip(("kinds", "sources", "targets", "weights", "firsts", "recents"), "IIIqQQ"))
+
+
+class Taken(NamedTuple):
+    """What a producer sent last: its number, the digest of its records, and what the batch did."""
+
+    sequence: int
+    digest: bytes
+    commit: Commit
+
+
+class Base(NamedTuple):
+    """A version: its kinds and vertices by number, its edges as columns, the texts of ids, and what producers sent last."""
+
+    kinds: List[str]
+    names: List[str]
+    edges: Arrays
+    texts: Mapping[str, str]
+    producers: Mapping[str, Taken]
+
+    @staticmethod
+    def of(held: Held, texts: Mapping[str, str], producers: Mapping[str, Taken]) -> "Base":
+        """A version that is held."""
+        return Base(held.kinds(), held.names(), held.edges(WHOLE), texts, producers)
+
+    def columns(self) -> Iterator[Tuple[str, bytes]]:
+        """The columns by name, as they are written."""
+        for name, names in (("kind", self.kinds), ("vertex", self.names)):
+            yield f"{name}_text", "".join(names).encode("ascii")
+            yield f"{name}_ends", _written(array(ENDS, accumulate(map(len, names))))
+        yield from ((name, _written(it)) for name, it in zip(OF_EDGES, self.edges))
+        producers = {it: (sequence, told.hex(), commit) for it, (sequence, told, commit) in self.producers.items()}
+        yield from (("texts", json.dumps(dict(self.texts)).encode("ascii")), ("producers", json.dumps(producers).encode("ascii")))
+
+
+def _written(column: "array[int]") -> bytes:
+    if sys.byteorder == "big":
+        column = array(column.typecode, column)
+        column.byteswap()
+    return column.tobytes()
+
+
+def _numbers(code: str, data: bytes) -> "array[int]":
+    found = array(code, data)
+    if sys.byteorder == "big":
+        found.byteswap()
+    return found
+
+
+def digest_of(version: int, at: int, counts: Sequence[int], before: bytes, columns: Mapping[str, bytes]) -> bytes:
+    """The digest of a base, with the sum of its version's batch."""
+    head = json.dumps((version, at, *counts)).encode("ascii")
+    return digest(head, before, *(part for name, it in sorted(columns.items()) for part in (name.encode("ascii"), it)))
+
+
+def read_base(opened: sqlite3.Connection, version: int) -> Tuple[Base, bytes]:
+    """The base of a version, and the sum of its batch. Raises `JournalFault` where it isn't as it was written."""
+    row = opened.execute("SELECT at, vertices, kinds, edges, sum, digest FROM bases WHERE version=?", (version,)).fetchone()
+    parts: Dict[str, List[bytes]] = {}
+    for name, data in opened.execute("SELECT name, data FROM columns WHERE version=? ORDER BY name, part", (version,)):
+        parts.setdefault(name, []).append(data)
+    try:
+        columns = {name: b"".join(it) for name, it in parts.items()}
+        at, *counts, before, told = row
+        is_whole = digest_of(version, at, counts, before, columns) == told
+    except (TypeError, UnicodeError):  # (a damaged page may have anything in its place)
+        is_whole = False
+    if not is_whole:
+        raise JournalFault(f"the base of version {version} isn't as it was written")
+    kinds, names = (_names(columns[f"{it}_text"], columns[f"{it}_ends"]) for it in ("kind", "vertex"))
+    edges = Arrays(*(_numbers(code, columns[name]) for name, code in OF_EDGES.items()))
+    producers = {it: Taken(sequence, bytes.fromhex(found), Commit(*commit))
+                 for it, (sequence, found, commit) in json.loads(columns["producers"]).items()}
+    return Base(kinds, names, edges, json.loads(columns["texts"]), producers), before
+
+
+def _names(text: bytes, ends: bytes) -> List[str]:
+    return Encoded(text, _numbers(ENDS, ends)).names
+
+
+# An engine that is filled.
+
+def fill(engine: LibraryEngine, base: Base) -> None:
+    """Has an empty engine hold what a base has, with the same numbers of names and kinds. (Until the library opens a desk over
+    columns: edges that are inserted and removed again make the names known in their order, and an edge whose times differ is
+    inserted at the one and at the other.)"""
+    if not base.names:
+        return
+    dictionaries = tuple(Encoded("".join(it).encode("ascii"), array(ENDS, accumulate(map(len, it))))
+                         for it in (base.kinds, base.names))
+    engine.fit(len(base.names), len(base.kinds), _room(base))
+    loops = _loops(len(base.names), len(base.kinds))
+    later = [at for at, (first, recent) in enumerate(zip(base.edges.firsts, base.edges.recents)) if first != recent]
+    edges, again = base.edges, base.edges.at(later)
+    for code, them, times in ((INSERT, loops, loops.firsts), (REMOVE, loops, loops.firsts), (INSERT, edges, edges.firsts),
+                              (INSERT, again, again.recents)):
+        columns = Numbered(array("B", [code]) * them.size, them.kinds, them.sources, them.targets, them.weights, times,
+                           *dictionaries)
+        for at in range(0, them.size, MOST_AT_ONCE):
+            engine.fly(engine.flight(Operations(columns=columns.some(slice(at, at + MOST_AT_ONCE))), True))
+
+
+def _room(base: Base) -> int:
+    """How many blocks the edges take, with those that a batch asks for."""
+    counts: Dict[Tuple[int, int], int] = {}
+    for it in zip(base.edges.kinds, base.edges.sources):
+        counts[it] = counts.get(it, 0) + 1
+    used = sum(-(-it // BLOCK_EDGES) for it in counts.values())
+    return max(used, len(base.names) // 2 + len(base.kinds)) + MOST_AT_ONCE
+
+
+def _loops(names: int, kinds: int) -> Arrays:
+    """An edge for each two vertices, and for each further kind a loop: together they have all names in their order."""
+    firsts, more = range(0, names, 2), kinds - 1
+    sources = array("I", [*firsts, *[0] * more])
+    targets = array("I", [*(min(it + 1, names - 1) for it in firsts), *[0] * more])
+    numbers = array("I", [*[0] * len(firsts), *range(1, kinds)])
+    zeros = array("Q", bytes(8 * len(sources)))
+    return Arrays(numbers, sources, targets, array("q", bytes(8 * len(sources))), zeros, zeros)

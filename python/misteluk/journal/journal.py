@@ -1,0 +1,235 @@
+"""The file of a store that is written: one writer, who appends batches."""
+from __future__ import annotations
+
+import json
+import os
+import sqlite3
+import threading
+import time
+from contextlib import suppress
+from typing import Any, List, Mapping, NamedTuple, Optional, Set, Tuple
+
+from .lock import WritersLock
+from .recovery import rows_of, texts_of
+from .tables import (OF_BATCH, SYNCS, Head, Settings, Statement, Written, connect, faults_told, make, read_head, read_settings,
+                     read_sum)
+from .wal import commits_lost
+from ..values.texts import Path
+from ..errors import JournalError, JournalFault, Locked, NotWritten
+from ..files import keep_folder, place_of
+
+_INSERT = f"INSERT INTO batches({OF_BATCH}) VALUES (?, ?, ?, ?, ?, ?, ?, ?, ?)"
+# (by its seal: where another writer came in between, the head is another one)
+_ADVANCE = "UPDATE head SET version=?, confirmed=?, epoch=?, sum=?, seal=? WHERE seal=?"
+# A sync that failed, by SQLite's name; a Python before 3.11 has no names for one error of the disk and another.
+_SYNCS_FAILED = "SQLITE_IOERR_FSYNC", "SQLITE_IOERR_DIR_FSYNC"
+_DISK_FAILED = "disk I/O error"
+
+
+class Entry(NamedTuple):
+    """A batch that is to be written: its records and how many they are, the texts of ids that come with it, and whose it is, by
+    which number."""
+
+    records: bytes
+    operations: int
+    texts: Mapping[str, str]
+    producer: Optional[str] = None
+    sequence: Optional[int] = None
+
+
+class Journal:
+    """A store's file and its writer's lock. What a call wrote is on the disk when it returns, as `sync` has it.
+
+    Raises `Locked` where another process writes the file, and `JournalFault` where it isn't as it was written. A call that raises
+    `NotWritten` has written nothing. After one that raises `JournalFault` nothing more is written until the file is opened again.
+    An interrupt may leave a call in doubt: the next one finds in the file whether it was made.
+    """
+
+    fault: Optional[JournalError] = None
+
+    def __init__(self, path: Path, sync: str, settings: Settings) -> None:
+        if sync not in SYNCS:
+            raise ValueError(f"sync is 'full', 'normal' or 'off', and not {sync!r}")
+        self.place = place_of(path)
+        self._alone, self._writers = threading.RLock(), WritersLock(self.place)
+        self._is_in_doubt = False
+        # The ids whose texts the file has, and when the last batch was written.
+        self.written: Set[str] = set()
+        self._at = 0
+        try:
+            must_be_whole(self.place)
+            with faults_told():
+                self.opened = connect(self.place, "rwc", sync)
+        except BaseException:
+            self._writers.close(False)
+            raise
+        try:
+            with faults_told():
+                self._begin(settings)
+        except BaseException:
+            self.close()
+            raise
+
+    def _begin(self, settings: Settings) -> None:
+        """Makes the tables where there are none, and has an epoch of its own, by which the writes of an older writer fail."""
+        make(self.opened, settings)
+        keep_folder(os.path.dirname(self.place))
+        self.settings, self.head = read_settings(self.opened), read_head(self.opened)
+        if self.head.version < self._writers.noted:
+            raise JournalFault(f"{self.place} had version {self._writers.noted}, and has {self.head.version} now: its -wal was "
+                               "cut or removed, or another file is in its place. Without its -lock it is opened as it is")
+        self.opened.execute("DELETE FROM columns WHERE version NOT IN (SELECT version FROM bases)")
+        self.opened.execute("PRAGMA wal_checkpoint(TRUNCATE)")  # (so that nothing that a crash left lies behind what comes)
+        self._write(self.head._replace(epoch=self.head.epoch + 1))
+        self._files = self._seen_files()
+        found = self.opened.execute("SELECT max(at) FROM (SELECT at FROM batches UNION ALL SELECT at FROM bases)").fetchone()[0]
+        self._at = found or 0
+
+    def _seen_files(self) -> List[Tuple[int, int]]:
+        seen = (os.stat(it) for it in (self.place, f"{self.place}-wal"))
+        return [(it.st_dev, it.st_ino) for it in seen]
+
+    # What is there.
+
+    def settle(self) -> Head:
+        """The head, as the file has it."""
+        with self._alone:
+            if self._is_in_doubt:
+                self._roll_back()
+                with faults_told():
+                    self.head = read_head(self.opened)
+                self._is_in_doubt = False
+            return self.head
+
+    def last(self) -> Written:
+        """The last batch, as it is written."""
+        with self._alone, faults_told():
+            return next(rows_of(self.opened, self.head.version - 1, self.head.version))
+
+    def rows(self, words: str, *values: object) -> List[Any]:
+        """What SQLite finds."""
+        with self._alone, faults_told():
+            return self.opened.execute(words, values).fetchall()
+
+    def must_be_well(self) -> None:
+        """Raises the fault that ended this writer, and `NotWritten` where the file isn't in its place any more."""
+        if self.fault is not None:
+            raise self.fault
+        try:
+            is_there = self._seen_files() == self._files
+        except OSError:
+            is_there = False
+        if not is_there:
+            raise NotWritten(f"{self.place} or its -wal isn't in its place any more, or another file is there: nothing is "
+                             "written, and the store is as it was")
+
+    # What is written.
+
+    def append(self, entry: Entry, settings: Settings) -> Written:
+        """Writes a batch as the next version, with the settings where they changed."""
+        with self._alone:
+            self.must_be_well()
+            head = self.settle()
+            texts = {it: text for it, text in entry.texts.items() if it not in self.written}
+            self._at = max(self._at, time.time_ns() // 1_000)
+            row = Written(head.version + 1, self._at, entry.operations, entry.records, json.dumps(texts) if texts else None, 0,
+                          entry.producer, entry.sequence).summed(head.sum)
+            changed = settings.written() if settings != self.settings else []
+            self._write(Head(row.version, head.version, head.epoch, row.sum), (_INSERT, row), *changed)
+            self._writers.note(row.version)
+            self.settings = settings
+            self.written.update(texts)
+            return row
+
+    def mark_drop(self) -> Written:
+        """Notes that names and kinds without an edge are dropped before the last batch."""
+        with self._alone:
+            head, row = self.settle(), self.last()._replace(drops=1)
+            row = row.summed(read_sum(self.opened, row.version - 1))
+            self._write(head._replace(sum=row.sum), ("UPDATE batches SET drops=1, sum=? WHERE version=?", (row.sum, row.version)))
+            return row
+
+    def take_back(self, version: int) -> None:
+        """Takes the batches behind a version out: the engine refuses the first of them, and nobody was told of any."""
+        with self._alone:
+            head = self.settle()
+            self._writers.note(version)
+            for row in rows_of(self.opened, version, head.version):
+                self.written.difference_update(texts_of(row))
+            try:
+                self._write(Head(version, min(version, head.confirmed), head.epoch, read_sum(self.opened, version)),
+                            ("DELETE FROM batches WHERE version>?", (version,)))
+            except NotWritten as fault:
+                raise self._ended(JournalFault(f"a batch is refused, and can't be taken out of {self.place}: whether it is in is "
+                                               f"decided when that is opened again ({fault})")) from None
+
+    def change(self, settings: Settings) -> None:
+        """Writes other settings."""
+        with self._alone:
+            if settings != self.settings:
+                self._write(self.settle(), *settings.written())
+                self.settings = settings
+
+    def shrink(self) -> None:
+        """Gives pages that nothing uses back to the disk. (Where that fails they are used for what comes.)"""
+        with self._alone, suppress(sqlite3.OperationalError):
+            self.opened.execute("PRAGMA incremental_vacuum").fetchall()
+
+    def run(self, *statements: Statement) -> None:
+        """Runs statements that leave the head as it is, all at once."""
+        with self._alone:  # (the head that is written back is the one that is there)
+            self.must_be_well()
+            self._write(self.settle(), *statements)
+
+    def _write(self, head: Head, *statements: Statement) -> None:
+        """Runs statements and puts this head in the place of the one before, all at once. The caller has the lock."""
+        self._is_in_doubt = True
+        try:
+            self.opened.execute("BEGIN IMMEDIATE")
+            if self.opened.execute(_ADVANCE, (*head, head.seal, self.head.seal)).rowcount != 1:
+                raise self._ended(Locked(f"another process became the writer of {self.place}"))
+            for words, values in statements:
+                self.opened.execute(words, values)
+            self.opened.execute("COMMIT")
+        except sqlite3.Error as fault:
+            raise self._failed(fault) from fault
+        self.head = head
+        self._is_in_doubt = False
+
+    # What fails.
+
+    def _failed(self, fault: sqlite3.Error) -> JournalError:
+        """What a fault of SQLite means: nothing was written, or whether it was isn't known, and then this writer ends."""
+        self._roll_back()
+        name, text = getattr(fault, "sqlite_errorname", None), str(fault)
+        if name in _SYNCS_FAILED or name is None and _DISK_FAILED in text:
+            return self._ended(JournalFault(f"{self.place}: a sync failed, so whether the batch is on the disk isn't known "
+                                            f"({text}). Open the store again, and ask it or repeat the batch by its sequence"))
+        if isinstance(fault, sqlite3.OperationalError):
+            self._is_in_doubt = False
+            return NotWritten(f"{self.place}: {text}. Nothing is written, and the store is as it was")
+        return self._ended(JournalFault(f"{self.place} isn't as it was written: SQLite: {text}"))
+
+    def _roll_back(self) -> None:
+        if self.opened.in_transaction:
+            with suppress(sqlite3.Error):
+                self.opened.execute("ROLLBACK")
+
+    def _ended(self, fault: JournalError) -> JournalError:
+        self.fault = fault
+        return fault
+
+    def close(self) -> None:
+        """Ends the writer, and gives the lock back. (SQLite puts what the -wal has into the database, and removes it, if it
+        can.)"""
+        with suppress(sqlite3.Error):
+            self.opened.close()
+        self._writers.close(not os.path.exists(f"{self.place}-wal"))
+
+
+def must_be_whole(place: str) -> None:
+    """Raises `JournalFault` where the -wal was damaged."""
+    lost = commits_lost(place)
+    if lost:
+        which = "no commit" if lost < 0 else f"not the last {lost} commits"
+        raise JournalFault(f"{place}-wal is damaged, and {which} of it can be had. Nothing is changed: copy both files first")

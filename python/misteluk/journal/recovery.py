@@ -1,0 +1,159 @@
+"""What a store's file holds: by the newest base that is as it was written, and the batches that came after it."""
+from __future__ import annotations
+
+import json
+import sqlite3
+from dataclasses import dataclass, field
+from typing import Dict, Iterator, List, Optional
+
+from .bases import Base, Taken, fill, read_base
+from .scripts import operations_of
+from .tables import NO_SUM, OF_BATCH, Head, Written, digest, read_head
+from ..engine.library import LibraryEngine
+from ..engine.protocol import Denied
+from ..errors import JournalFault
+from ..values.answers import Commit
+from ..values.limits import Limits
+
+
+@dataclass
+class State:
+    """What a file holds as of a version: the engine that has its graph and its kinds, the sum of its last batch, the texts of
+    ids, and what producers sent last. And how that was found: by the base of which version (0 is none), and how many batches and
+    operations."""
+
+    engine: LibraryEngine
+    version: int = 0
+    whole: Optional[int] = None
+    sum: bytes = NO_SUM
+    texts: Dict[str, str] = field(default_factory=dict)
+    producers: Dict[str, Taken] = field(default_factory=dict)
+    kinds: List[str] = field(default_factory=list)
+    base: int = 0
+    batches: int = 0
+    operations: int = 0
+
+    def begin(self, version: int, base: Base, found: bytes) -> None:
+        """Takes what the base of this version has, whose batch has this sum."""
+        fill(self.engine, base)
+        self.engine.count_from(version)
+        self.version = self.whole = self.base = version
+        self.sum, self.texts, self.producers = found, dict(base.texts), dict(base.producers)
+
+    def replay(self, row: Written) -> None:
+        """Applies the next batch. Raises `JournalFault` where it isn't the next one, or not as it was written; `Denied` where the
+        engine refuses it: then nothing of it is taken."""
+        if row.version != self.version + 1:
+            raise JournalFault(f"version {self.version + 1} is missing, where {row.version} is there")
+        if row.summed(self.sum).sum != row.sum:
+            raise JournalFault(f"the batch of version {row.version} isn't as it was written")
+        operations = operations_of(row.records)
+        if row.drops:
+            self.engine.drop_idle_names()
+        commit = self.engine.fly(self.engine.flight(operations, True))
+        self.take(row, commit)
+        self.batches, self.operations = self.batches + 1, self.operations + operations.size
+
+    def take(self, row: Written, commit: Commit) -> None:
+        """Takes what came with a batch, which did this."""
+        self.version = self.whole = row.version
+        self.sum = row.sum
+        self.texts.update(texts_of(row))
+        if row.producer is not None and row.sequence is not None:
+            self.producers[row.producer] = Taken(row.sequence, digest(row.records), commit)
+
+
+def recover(opened: sqlite3.Connection, engine: LibraryEngine, until: Optional[int] = None,
+            limits: Optional[Limits] = None) -> State:
+    """What the file holds now, or as of a version, in an empty engine, which takes what was accepted however much that is. The
+    last batch may be one that a crash left before anybody was told of it: it goes in within these limits, or isn't in, and then
+    the state's version is less than the head's.
+
+    Raises `JournalFault` where the file isn't as it was written, with the last version that can be had, and `ValueError` where
+    there is no such version.
+    """
+    state = State(engine)
+    opened.execute("BEGIN")  # (all that is read is of one moment)
+    try:
+        head = read_head(opened)
+        last = head.version if until is None else _kept(opened, head, until)
+        _take_base(opened, state, last)
+        for row in rows_of(opened, state.version, last):
+            if row.version == head.confirmed + 1 and limits is not None:
+                engine.limits = limits
+            if not _is_replayed(state, row, until is None and row.version > head.confirmed):
+                return state
+        if state.version != last:
+            raise JournalFault(f"the versions from {state.version + 1} on are missing, and {last} is the last one")
+        must_end(opened, head, state)
+        return state
+    except JournalFault as fault:
+        raise JournalFault(str(fault), state.whole) from None
+    except sqlite3.DatabaseError as fault:
+        raise JournalFault(f"SQLite: {fault}", state.whole) from fault
+    except (OverflowError, UnicodeError, TypeError, KeyError) as fault:
+        raise JournalFault(f"a row isn't as it was written ({fault})", state.whole) from fault
+    finally:
+        opened.execute("ROLLBACK")
+
+
+def must_end(opened: sqlite3.Connection, head: Head, state: State) -> None:
+    """Raises `JournalFault` where a state that came to the head's version isn't the head's, or batches lie behind it."""
+    if state.version == head.version and state.sum != head.sum:
+        raise JournalFault(f"the head has another sum than the batch of version {head.version}")
+    if opened.execute("SELECT 1 FROM batches WHERE version>?", (head.version,)).fetchone():
+        raise JournalFault(f"there are batches behind version {head.version}, which the head has as the last one")
+
+
+def _is_replayed(state: State, row: Written, may_be_refused: bool) -> bool:
+    """Whether a batch is in; it may be refused where nobody was told of it."""
+    try:
+        state.replay(row)
+        return True
+    except Denied as fault:
+        if not may_be_refused:
+            raise JournalFault(f"the batch of version {row.version} is refused ({fault.word})") from None
+        return False
+
+
+def _kept(opened: sqlite3.Connection, head: Head, version: int) -> int:
+    """The version. Raises `ValueError` where the file doesn't have it."""
+    oldest = oldest_kept(opened)
+    if not oldest <= version <= head.version:
+        raise ValueError(f"there is no version {version}: the file has {oldest} to {head.version}")
+    return version
+
+
+def oldest_kept(opened: sqlite3.Connection) -> int:
+    """The oldest version that can be had: 0 as long as every batch is there, else that of the oldest base."""
+    if opened.execute("SELECT 1 FROM batches WHERE version=1").fetchone():
+        return 0
+    found: Optional[int] = opened.execute("SELECT min(version) FROM bases").fetchone()[0]
+    return found or 0
+
+
+def texts_of(row: Written) -> Dict[str, str]:
+    """The texts of ids that came with a batch."""
+    found: Dict[str, str] = json.loads(row.texts) if row.texts else {}
+    return found
+
+
+def rows_of(opened: sqlite3.Connection, after: int, last: int) -> Iterator[Written]:
+    """The batches behind a version, up to another one."""
+    # (so many at the most: a damaged page may have another row behind them)
+    words = f"SELECT {OF_BATCH} FROM batches WHERE version>? AND version<=? ORDER BY version LIMIT ?"
+    rows = opened.execute(words, (after, last, last - after))
+    return (Written(*it) for it in rows)
+
+
+def _take_base(opened: sqlite3.Connection, state: State, last: int) -> None:
+    """Begins with the newest base that is as it was written, of those that aren't newer than this version."""
+    words = "SELECT version FROM bases WHERE version<=? ORDER BY version DESC"
+    versions: List[int] = [it for it, in opened.execute(words, (last,))]
+    for version in versions:
+        try:
+            base, found = read_base(opened, version)
+        except JournalFault:
+            continue
+        return state.begin(version, base, found)
+    state.whole = 0

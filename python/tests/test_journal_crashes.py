@@ -1,0 +1,56 @@
+"""A store's file behind killed writers, losses of power, damaged bytes and full disks: a few of each. (`tools/try-journal` tries
+many.) Each is tried with a fault that is planted too, which it has to find."""
+import unittest
+from unittest import mock
+
+import crashing
+from support import Case
+
+from misteluk.journal import journal
+from misteluk.journal.lock import WritersLock
+from misteluk.journal.tables import Written
+
+
+class Crashes(Case):
+    def shimmed(self):
+        shim = crashing.shim_in(self.room)
+        if shim is None:
+            self.skipTest("no C compiler is here")
+        return shim
+
+    def test_killed_writers(self):
+        found = crashing.kills(self.room, 3)
+        self.assertGreater(found["last version"], 5)
+
+    def test_losses_of_power(self):
+        shim = self.shimmed()
+        found = crashing.losses(self.room, shim, 2)
+        self.assertLessEqual(found["missing at most"], 0)
+        found = crashing.losses(self.room, shim, 1, "off", most=(1.0, 1.5))
+        self.assertGreater(found["missing at most"], 0, "the shim keeps what wasn't synced")
+
+    def test_damaged_bytes(self):
+        found = crashing.damages(self.room, 12)
+        self.assertFalse([it for it in found if "WITHOUT A WORD" in it], found)
+        self.assertTrue(any("a fault" in it for it in found) and any("whole" in it for it in found), found)
+
+    def test_damaged_bytes_that_nobody_looks_for(self):
+        with mock.patch.object(journal, "commits_lost", lambda _: 0), mock.patch.object(WritersLock, "note", lambda *_: None):
+            found = crashing.damages(self.room, 4)
+        self.assertTrue([it for it in found if "WITHOUT A WORD" in it], found)
+
+    def test_batches_whose_sums_nobody_looks_at(self):
+        path = crashing.whole(self.room)
+        data = path.read_bytes()
+        path.write_bytes(data.replace(b"a149,", b"a148,"))
+        self.assertEqual(crashing.told_of(path, crashing.models()), "a fault, and the versions before it by Store.at")
+        with mock.patch.object(Written, "summed", lambda self, _: self), self.assertRaisesRegex(AssertionError, "another graph"):
+            crashing.told_of(path, crashing.models())
+
+    def test_full_disks(self):
+        found = crashing.full_disks(self.room, self.shimmed(), (9, 70))
+        self.assertGreater(found.get("told", 0), 0)
+
+
+if __name__ == "__main__":
+    unittest.main()

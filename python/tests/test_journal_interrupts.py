@@ -1,0 +1,118 @@
+"""An interrupt at each place of a commit to a file: each batch is in once, in the store and in the file, and told once."""
+import gc
+import unittest
+import warnings
+
+from interrupting import at_line, places
+from support import Case
+
+from misteluk import Store
+from misteluk.journal.checking import check
+
+
+class Scene:
+    """A store with a file and an edge, and an amount that is pending three times. What was told of commits is kept."""
+
+    def __init__(self, room):
+        self.path, self.told = str(room / "graph.db"), []
+        for it in room.glob("graph.db*"):
+            it.unlink()
+        self.store = Store(self.path, sync="off", blocks=64)
+        self.store.insert("k", "a", "b", 5, 1)
+        self.store.commit()
+        self.pend()
+
+    def pend(self):
+        for _ in range(3):
+            self.store.add("k", "a", "b", 1, 2)
+
+    def commit(self):
+        self.told.append(self.store.commit())
+
+    def small_batches(self):
+        self.told.append(self.store.commit(batch=1))
+
+    def numbered(self):
+        self.told.append(self.store.commit(producer="feed", sequence=1))
+
+    def compact(self):
+        self.store.file.compact()
+
+    def is_right(self):
+        """Whether a commit takes what is left, and all of it is told once."""
+        store = self.store
+        gc.collect()
+        self.told.append(store.commit())
+        assert (sum(it.updated for it in self.told), store.pending) == (3, 0), self.told
+        self.holds(8, sum(it.batches for it in self.told) + 1)
+
+    def is_once(self):
+        """Whether the producer, who sends the same again until an answer comes, gets that of the one time."""
+        store = self.store
+        for is_sent in (store.pending == 0, True, False):
+            if is_sent:
+                self.pend()
+            done = store.commit(producer="feed", sequence=1)
+            assert done[:5] == (2, 0, 3, 0, 0) and store.pending == 0, (done, store.pending)
+        self.holds(8, 2)
+
+    def is_there(self):
+        self.store.commit()
+        self.holds(8, 2)
+
+    def holds(self, weight, version):
+        """Whether the store has the edge and the version, and the file that it leaves."""
+        with self.store.open() as session:
+            assert (session.edge("k", "a", "b"), session.version) == ((weight, 1, 2), version), "the store"
+        self.store.close()
+        assert check(self.path).faults == [], "the file"
+        with Store(self.path, sync="off") as store, store.open() as session:
+            assert (session.edge("k", "a", "b"), session.version) == ((weight, 1, 2), version), "the file"
+
+    def end(self):
+        self.store.kill()
+
+
+class Interrupts(Case):
+    def wrong(self, call, is_right, most=12):
+        return places(lambda: Scene(self.room), call, lambda it: is_right(it) or True, most)[1]
+
+    def test_a_commit(self):
+        self.assertEqual(self.wrong(Scene.commit, Scene.is_right), [])
+
+    def test_a_commit_in_small_batches(self):
+        self.assertEqual(self.wrong(Scene.small_batches, Scene.is_right, 6), [])
+
+    def test_a_numbered_commit(self):
+        self.assertEqual(self.wrong(Scene.numbered, Scene.is_once), [])
+
+    def test_a_compaction(self):
+        self.assertEqual(self.wrong(Scene.compact, Scene.is_there, 6), [])
+
+    def is_interrupted(self, at, path):
+        """Opens the file and interrupts that at a line; whether there is such a line. What is left then Python closes late."""
+        stores = []
+        with warnings.catch_warnings():
+            warnings.simplefilter("ignore", ResourceWarning)
+            found = at_line(at, lambda: stores.append(Store(path, sync="off")))
+            for it in stores:
+                it.close()
+            del stores
+            gc.collect()
+        return found
+
+    def test_an_opening(self):
+        """The next one finds the file, and no lock that the interrupted one had."""
+        scene, at, is_more = Scene(self.room), 1, True
+        scene.commit()
+        scene.store.close()
+        while is_more:
+            is_more = self.is_interrupted(at, scene.path)
+            with Store(scene.path, sync="off") as store:
+                self.assertEqual(store.stat().version, 2)
+            at += 23
+        self.assertGreater(at, 200)
+
+
+if __name__ == "__main__":
+    unittest.main()

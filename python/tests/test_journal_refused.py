@@ -1,0 +1,246 @@
+"""Batches that a store with a file doesn't take, since it refuses them or the file can't be written: all is as it was before."""
+import contextlib
+import os
+import sqlite3
+import threading
+import unittest
+from unittest import mock
+
+from journaled import JournalCase, Model, batch, put, told
+
+from misteluk import JournalFault, KindsFull, Limits, NamesFull, NotWritten, OverLimit, PoolEmpty, Store
+from misteluk.engine.protocol import WHOLE
+from misteluk.journal.checking import check
+from misteluk.journal.journal import Journal
+
+
+def told_of(engine):
+    """The last version of an engine that anybody may hold now, and how many edges it has."""
+    with contextlib.closing(engine.hold(None)) as held:
+        return held.number, held.edges(WHOLE).size
+
+
+class Refused(JournalCase):
+    def test_what_the_engine_refuses_is_not_in_the_file(self):
+        store = self.opened(blocks=16, limits=Limits(vertices=10, kinds=2))
+        put(store, [("insert", "k", "a", "b", 1, 1)])
+        refused = ((NamesFull, [("insert", "k", f"v{it}", "b", 1, 1) for it in range(10)]),
+                   (KindsFull, [("insert", f"k{it}", "a", "b", 1, 1) for it in range(2)]),
+                   (PoolEmpty, [("add", "k", "a", "b", 1, 1)] * 40))
+        for error, rows in refused:
+            with self.assertRaises(error):
+                put(store, rows)
+            self.assertEqual(self.rows("SELECT version FROM batches"), [(1,)])
+            store.discard()
+        self.assertEqual(put(store, [("add", "k", "a", "b", 1, 1)]).version, 2)
+        store.close()
+        self.assertEqual(check(self.path).faults, [])
+        with Store(self.path) as store:
+            self.assertEqual(told(store)[1], {("k", "a", "b"): (2, 1, 1)})
+
+    def test_a_text_that_came_with_a_refused_batch(self):
+        with self.opened(limits=Limits(vertices=2)) as store:
+            store.insert("k", "Ж", "b")
+            store.insert("k", "Ж", "c")
+            with self.assertRaises(NamesFull):
+                store.commit()
+            store.discard()
+            store.insert("k", "Ж", "b")
+            store.commit()
+        with self.opened() as store, store.open() as session:
+            self.assertEqual([it[:3] for it in session.edges()], [("k", "Ж", "b")])
+
+    def test_a_refused_batch_that_a_crash_left(self):
+        """It is taken out by the next opening, as nobody was told of it; one that can be applied is in then."""
+        for room, versions in ((1, [1]), (3, [1, 2])):
+            with self.subTest(room=room):
+                self.path = str(self.room / f"{room}.db")
+                store = self.opened(limits=Limits(vertices=3 if room == 3 else 2))
+                put(store, [("insert", "k", "a", "b", 1, 1)])
+                with mock.patch.object(Journal, "take_back", side_effect=KeyboardInterrupt), \
+                        mock.patch.object(type(store.engine.inner), "fly", side_effect=KeyboardInterrupt), \
+                        self.assertRaises(KeyboardInterrupt):
+                    put(store, [("insert", "k", "a", "c", 1, 1)])
+                self.assertEqual(self.rows("SELECT version FROM batches"), [(1,), (2,)])
+                store.kill()
+                with Store(self.path) as store:
+                    self.assertEqual((store.stat().version, self.rows("SELECT version FROM batches")),
+                                     (versions[-1], [(it,) for it in versions]))
+                    self.assertEqual(put(store, [("add", "k", "a", "b", 1, 1)]).version, versions[-1] + 1)
+                self.assertEqual(check(self.path).faults, [])
+
+    def test_blocks_are_as_many_as_the_file_needs(self):
+        with self.opened() as store:
+            put(store, [("insert", "k", f"a{it}", "b", 1, 1) for it in range(40)])
+        with self.opened(blocks=16) as store:
+            self.assertEqual(store.stat().edges, 40)
+
+    def test_limits_that_are_less_than_the_file_has(self):
+        self.opened().close()
+        with self.opened() as store:
+            put(store, [("insert", "k", "a", f"b{it}", 1, 1) for it in range(5)])
+        with self.assertRaisesRegex(OverLimit, "6 vertices"):
+            Store(self.path, limits=Limits(vertices=5))
+        with self.assertRaisesRegex(ValueError, "weight"):
+            Store(self.path, limits=Limits(weight=5))
+        with self.opened(limits=Limits(vertices=6)) as store:
+            with self.assertRaises(NamesFull):
+                put(store, [("insert", "k", "a", "c", 1, 1)])
+            store.discard()
+
+    def test_a_greatest_weight(self):
+        with self.opened(limits=Limits(weight=10)) as store:
+            put(store, [("add", "k", "a", "b", 7, 1)])
+            self.assertEqual(put(store, [("add", "k", "a", "b", 7, 2)]).overflowed, 1)
+        with self.opened() as store:
+            self.assertEqual(told(store)[1], {("k", "a", "b"): (7, 1, 1)})
+
+    def test_an_endless_store_drops_at_the_same_place(self):
+        found = {}
+        store = self.opened(endless=True, limits=Limits(vertices=10))
+        for number in range(1, 30):
+            store.insert("k", f"a{number}", f"b{number}", number, number)
+            store.expire(max(number - 3, 0))
+            store.commit()
+            found[number] = told(store)
+        drops = [it for it, in self.rows("SELECT version FROM batches WHERE drops ORDER BY 1")]
+        self.assertGreater(len(drops), 3)
+        store.close()
+        for number, wanted in found.items():
+            with Store.at(self.path, version=number) as then:
+                self.assertEqual(told(then), wanted)
+        self.assertEqual(check(self.path).faults, [])
+        with self.opened() as store:
+            self.assertEqual(told(store), found[29])
+
+
+class Failing:
+    """A connection whose calls fail from one on that begins so; a commit may be made nevertheless."""
+
+    def __init__(self, inner, begins, fault, made=False):
+        self.inner, self.begins, self.fault, self.made, self.is_on = inner, begins, fault, made, True
+
+    def execute(self, words, *values):
+        if self.is_on and words.startswith(self.begins):
+            if self.made:
+                self.inner.execute(words, *values)
+            raise self.fault
+        return self.inner.execute(words, *values)
+
+    def __getattr__(self, name):
+        return getattr(self.inner, name)
+
+
+def of_sqlite(text, name):
+    fault = sqlite3.OperationalError(text)
+    fault.sqlite_errorname = name
+    return fault
+
+
+class Failed(JournalCase):
+    """A batch that can't be written leaves the store and its sessions as they were."""
+
+    def planted(self, store, *how, **more):
+        journal = store.engine._journal
+        journal.opened = Failing(journal.opened, *how, **more)
+        return journal.opened
+
+    def test_a_disk_that_is_full(self):
+        store = self.fed(3)
+        session, model = store.open(), Model().upto(3)
+        for words in ("BEGIN", "INSERT", "UPDATE head", "COMMIT"):
+            failing = self.planted(store, words, of_sqlite("database or disk is full", "SQLITE_FULL"))
+            for _ in range(2):
+                with self.assertRaisesRegex(NotWritten, "full"):
+                    put(store, batch(4), producer="feed", sequence=4)
+                self.assertEqual(told(store), model.told())
+                self.assertEqual((store.discard(), session.is_open, len(session)), (40, True, len(model.edges)))
+            failing.is_on = False
+        self.assertEqual(put(store, batch(4), producer="feed", sequence=4).version, 4)
+        self.assertEqual(put(store, batch(4), producer="feed", sequence=4).version, 4)
+        self.assertEqual(told(store), model.upto(4).told())
+        store.close()
+        with Store(self.path) as store:
+            self.assertEqual(told(store), model.told())
+
+    def test_a_database_that_may_not_grow(self):
+        """SQLite's own word for a full disk, from the page on at which it comes."""
+        store = self.fed(3)
+        store.engine._journal.opened.execute("PRAGMA max_page_count=1")
+        with self.assertRaises(NotWritten):
+            put(store, [("insert", "k", f"a{it}", "b", 1, 1) for it in range(4_000)])
+        store.discard()
+        store.engine._journal.opened.execute("PRAGMA max_page_count=1000000")
+        self.assertEqual(told(store), Model().upto(3).told())
+        self.assertEqual(put(store, batch(4)).version, 4)
+
+    def test_a_sync_that_fails(self):
+        """Whether the batch is there isn't known, so nothing more goes in; a repeat by its number goes in once."""
+        for made in (True, False):
+            with self.subTest(made=made):
+                self.path = str(self.room / f"{made}.db")
+                store = self.fed(3)
+                self.planted(store, "COMMIT", of_sqlite("disk I/O error", "SQLITE_IOERR_FSYNC"), made=made)
+                for number in (4, 5):
+                    with self.assertRaisesRegex(JournalFault, "a sync failed"):
+                        put(store, batch(number), producer="feed", sequence=number)
+                    self.assertEqual(told(store), Model().upto(3).told())
+                store.discard()
+                store.close()
+                with Store(self.path) as store:
+                    self.assertEqual(store.stat().version, 3 + made)
+                    self.assertEqual(put(store, batch(4), producer="feed", sequence=4).version, 4)
+                    self.assertEqual(told(store), Model().upto(4).told())
+
+    def test_a_file_that_is_gone(self):
+        for name in ("graph.db", "graph.db-wal"):
+            store = self.fed(2)
+            os.rename(self.room / name, self.room / "away")
+            with self.assertRaisesRegex(NotWritten, "isn't in its place"):
+                put(store, batch(3))
+            store.discard()
+            (self.room / name).touch()
+            with self.assertRaisesRegex(NotWritten, "isn't in its place"):
+                put(store, batch(3))
+            store.discard()
+            self.assertEqual(told(store), Model().upto(2).told())
+            os.rename(self.room / "away", self.room / name)
+            self.assertEqual(put(store, batch(3)).version, 3)
+            store.close()
+            for it in self.room.glob("graph.db*"):
+                it.unlink()
+
+    def test_what_is_refused_and_can_t_be_taken_out(self):
+        store = self.opened(limits=Limits(vertices=2))
+        put(store, [("insert", "k", "a", "b", 1, 1)])
+        failing = self.planted(store, "DELETE", of_sqlite("database or disk is full", "SQLITE_FULL"))
+        for _ in range(2):
+            with self.assertRaisesRegex(JournalFault, "can't be taken out"):
+                put(store, [("insert", "k", "a", "c", 1, 1)])
+        failing.is_on = False
+        self.assertEqual(store.stat().names, 2)
+        store.discard()
+        store.close()
+        with Store(self.path) as store:
+            self.assertEqual(store.stat().version, 1)
+
+    def test_nobody_sees_what_is_not_on_the_disk(self):
+        """While a batch is being synced, sessions get the version before it."""
+        store, seen = self.fed(2), []
+        journal = store.engine._journal
+
+        class Watching(Failing):
+            def execute(self, words, *values):
+                if words == "COMMIT":
+                    other = threading.Thread(target=lambda: seen.append(told_of(store.engine)))
+                    other.start()
+                    other.join(60)
+                return self.inner.execute(words, *values)
+        journal.opened = Watching(journal.opened, "", None)
+        put(store, batch(3))
+        self.assertEqual(seen, [(2, len(Model().upto(2).edges))])
+        self.assertEqual(told(store), Model().upto(3).told())
+
+
+if __name__ == "__main__":
+    unittest.main()
