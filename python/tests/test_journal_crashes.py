@@ -1,11 +1,15 @@
 """A store's file behind killed writers, losses of power, damaged bytes and full disks: a few of each. (`tools/try-journal` tries
 many.) Each is tried with a fault that is planted too, which it has to find."""
+import contextlib
+import sqlite3
 import unittest
 from unittest import mock
 
 import crashing
+from journaled import told
 from support import Case
 
+from misteluk import JournalFault, Store
 from misteluk.journal import journal
 from misteluk.journal.lock import WritersLock
 from misteluk.journal.tables import Written
@@ -33,6 +37,28 @@ class Crashes(Case):
         found = crashing.damages(self.room, 12)
         self.assertFalse([it for it in found if "WITHOUT A WORD" in it], found)
         self.assertTrue(any("a fault" in it for it in found) and any("whole" in it for it in found), found)
+
+    def test_what_is_whole_of_a_damaged_wal(self):
+        """SQLite takes it where it is told so, as the fault says: exactly the batches before the damage."""
+        (self.room / "there").mkdir()
+        crashing.made(self.room / "here", self.room / "there", in_wal=True)
+        path = self.room / "there/graph.db"
+        wal = path.with_name("graph.db-wal")
+        data = bytearray(wal.read_bytes())
+        data[len(data) // 2] ^= 1
+        wal.write_bytes(data)
+        with self.assertRaisesRegex(JournalFault, "wal_checkpoint"):
+            Store(path)
+        self.assertEqual(wal.read_bytes(), data)
+        with contextlib.closing(sqlite3.connect(path)) as opened:
+            opened.execute("PRAGMA wal_checkpoint(TRUNCATE)")
+        with self.assertRaisesRegex(JournalFault, "had version 60"):
+            Store(path)
+        path.with_name("graph.db-lock").unlink()
+        with Store(path) as store:
+            version = store.stat().version
+            self.assertTrue(40 < version < 60, version)
+            self.assertEqual(told(store), crashing.models()[version].told())
 
     def test_damaged_bytes_that_nobody_looks_for(self):
         with mock.patch.object(journal, "commits_lost", lambda _: 0), mock.patch.object(WritersLock, "note", lambda *_: None):

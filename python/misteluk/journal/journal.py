@@ -232,4 +232,6 @@ def must_be_whole(place: str) -> None:
     lost = commits_lost(place)
     if lost:
         which = "no commit" if lost < 0 else f"not the last {lost} commits"
-        raise JournalFault(f"{place}-wal is damaged, and {which} of it can be had. Nothing is changed: copy both files first")
+        raise JournalFault(f"{place}-wal is damaged, and {which} of it can be had. Nothing is changed. Copy both files; then "
+                           f"`sqlite3 {place} 'PRAGMA wal_checkpoint(TRUNCATE)'` takes what is whole, and without its -lock that "
+                           "is opened")
