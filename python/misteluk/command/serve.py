@@ -4,6 +4,7 @@ from __future__ import annotations
 import argparse
 import contextlib
 import gc
+import os
 import signal
 import sys
 from typing import Any, Dict, Optional, Tuple
@@ -15,6 +16,7 @@ from ..serve.ending import Deadline
 from ..serve.keeping import USUAL_EVERY, Keeper
 from ..serve.limits import ServerLimits
 from ..serve.log import FORMS
+from ..serve.notify import Manager
 from ..serve.people import ROLES, People, people_of
 from ..serve.server import USUAL, Server
 from ..store import Store
@@ -81,7 +83,8 @@ def run(words: argparse.Namespace, how: Dict[str, Any], limits: ServerLimits, pe
         ends.enter_context(store)
         store.engine.fit(0, 0, ROOM)
         raise_descriptors()
-        server = Server(store, words.listen, people=people, limits=limits, keeper=keeper, began=began)
+        server = Server(store, words.listen, people=people, limits=limits, keeper=keeper, began=began,
+                        manager=Manager(os.environ))
         signal.signal(signal.SIGHUP, lambda *_: server.read_people())
         deadline = Deadline(lambda: ended(server, keeper))
         sys_turn = sys.getswitchinterval()

@@ -19,6 +19,7 @@ from .board import Board, Full, Lease
 from .faults import told_fault
 from .feeding import Feeding
 from .gate import Run
+from .health import Health
 from .keeping import Keeper
 from .flow import CALL, PERSON, Pool, Streamed, as_json, first_of, within
 from .limits import BODIES, LITTLE, ServerLimits, TooLarge
@@ -37,6 +38,8 @@ _ZONE_OR_TIME = re.compile(r"(?:^|&)(?:since|until)=\d{4}-\d\d-\d\d\+\d\d:", re.
 TAKEN = "misteluk.taken"
 # How the rows of a post are read.
 ROWS = {"text/csv": rows_of_csv, "application/json": rows_of_json}
+# The media type of Prometheus's text form.
+NUMBERS = "text/plain; version=0.0.4; charset=utf-8"
 BATCH = Parameter("number", "a batch's number", least=1)
 Handle = Callable[[Request], Any]
 
@@ -44,8 +47,10 @@ Handle = Callable[[Request], Any]
 class Api:
     """The calls of a server over a board and a feed."""
 
-    def __init__(self, board: Board, feeding: Feeding, limits: ServerLimits, run: Run, keeper: Optional[Keeper]) -> None:
+    def __init__(self, board: Board, feeding: Feeding, limits: ServerLimits, run: Run, keeper: Optional[Keeper],
+                 health: Health) -> None:
         self.board, self.feeding, self.limits, self._run, self._keeper = board, feeding, limits, run, keeper
+        self.health = health
         self.store = board.store
         self.quick = Pool(QUICK_THREADS, limits, "quick")
         # (to let a version go waits for a batch that is being applied)
@@ -71,7 +76,8 @@ class Api:
         others = [("GET", "/v1/stat", self.stat), ("GET", "/v1/sessions", self.sessions), ("POST", "/v1/rows", self.rows),
                   ("POST", "/v1/feeder", self.claim), ("DELETE", "/v1/feeder/{feeder}", self.leave),
                   ("POST", "/v1/feeder/{feeder}/batches/{number}", self.batch),
-                  ("DELETE", "/v1/feeder/{feeder}/batches/{number}", self.landed), ("GET", "/openapi.json", self.description)]
+                  ("DELETE", "/v1/feeder/{feeder}/batches/{number}", self.landed), ("GET", "/openapi.json", self.description),
+                  ("GET", "/metrics", self.metrics), ("GET", "/readyz", self.readyz), ("GET", "/healthz", self.healthz)]
         app = Starlette(routes=[*map(self._route, held), *asked, *map(self._route, others), *files],
                         exception_handlers={HTTPException: _no_route})
         app.router.redirect_slashes = False
@@ -162,6 +168,18 @@ class Api:
 
     async def description(self, request: Request) -> Response:
         return as_json(described())
+
+    # For those who watch the server.
+
+    async def healthz(self, request: Request) -> Response:
+        return as_json({"status": "it answers"})
+
+    async def readyz(self, request: Request) -> Response:
+        faults = self.health.faults()
+        return as_json(wire.fault("NotReady", "; ".join(faults)), 503) if faults else as_json({"status": "it is ready"})
+
+    async def metrics(self, request: Request) -> Response:
+        return Response(await self.quick.run(self.health.text), headers={"content-type": NUMBERS})
 
     # Sessions.
 

@@ -45,6 +45,11 @@ class Door:
         # How many were refused for lack of room.
         self.refused = 0
 
+    @property
+    def count(self) -> int:
+        """How many connections there are."""
+        return len(self._there)
+
     def enter(self, transport: Any, loop: Any) -> bool:
         """Takes a connection, and says whether there is room for it."""
         peer = _peer_of(transport)

@@ -21,10 +21,12 @@ _Server: Any = object
 class Ending(_Server):  # type: ignore[misc]
     """uvicorn's server. It stands before that in a class."""
 
+    begun: Callable[[], None]
     before: Callable[[], None]
 
     async def startup(self, sockets: Any = None) -> None:
         await super().startup(sockets=sockets)
+        self.begun()
         for it in sockets or []:  # (uvicorn's queue is as long as what it takes at once, which may be more than has room)
             it.listen(QUEUE)
 
@@ -43,10 +45,10 @@ class Ending(_Server):  # type: ignore[misc]
         super().handle_exit(number, frame)
 
 
-def made(base: Any, config: Any, before: Callable[[], None]) -> Any:
-    """The server that does the rest as this one."""
+def made(base: Any, config: Any, begun: Callable[[], None], before: Callable[[], None]) -> Any:
+    """The server that does the rest as this one, and calls what is given when it answers, and before it ends."""
     found: Any = type("Server", (Ending, base), {})(config)
-    found.before = before
+    found.begun, found.before = begun, before
     return found
 
 

@@ -77,13 +77,15 @@ class Feeding:
         self._following: Optional[Apart] = None
         self._thread: Optional[threading.Thread] = None
         self._is_over = False
+        # Whether a followed file was read to its end once.
+        self._is_read = False
 
     # A feed that is followed.
 
     def follow(self, following: Following) -> None:
         """Has a feed go in by a thread and a process of their own, until it ends or `close` ends it."""
         apart = Apart(following)
-        self._following, self.state = apart, "followed"
+        self._following, self.state, self._is_read = apart, "followed", False
         self._thread = threading.Thread(target=self._run, args=(apart,), name="feed")
         self._thread.start()
 
@@ -245,6 +247,13 @@ class Feeding:
         return found
 
     # What is told, and the end.
+
+    @property
+    def is_reading(self) -> bool:
+        """Whether a followed file wasn't read to its end yet, since the server began."""
+        following = self._following
+        self._is_read = self._is_read or following is None or not self._is_followed or not following.behind
+        return not self._is_read
 
     def told(self) -> Dict[str, Any]:
         """Who feeds the store, and how fast."""

@@ -20,7 +20,7 @@ App = Callable[[Any, Receive, Send], Awaitable[None]]
 # What has no data, so that a browser can ask for the token by it, and who watches the server needs none.
 OPEN = ("/", "/live.js", "/live.css", "/openapi.json", "/healthz", "/readyz")
 # Which statuses say that a request was refused that may be right another time, or from another one.
-REFUSED = (401, 403, 409, 413, 503)
+REFUSED, OF_HEALTH = (401, 403, 409, 413, 503), ("healthz", "readyz")
 HEADERS = [(b"x-content-type-options", b"nosniff"), (b"cache-control", b"no-store"), (b"referrer-policy", b"no-referrer"),
            (b"cross-origin-resource-policy", b"same-origin")]
 # The headers of a request that say who asks.
@@ -86,7 +86,7 @@ class Gate:
         """Counts a request that was answered, and logs one that was refused."""
         call = scope.get(CALL, "none")
         self.counts.answered(call, status, seconds)
-        if status in REFUSED:
+        if status in REFUSED and call not in OF_HEALTH:
             word = scope.get(WORD, "NotAllowed")
             self.counts.refuse(word)
             peer, *_ = scope.get("client") or ("",)

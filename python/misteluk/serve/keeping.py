@@ -17,6 +17,8 @@ from ..store import Store
 
 # Every how many seconds a version is saved, if nothing else is said.
 USUAL_EVERY = 60.0
+# A save is late when none came for so many times as long, and so many seconds.
+LATE, SLOW = 2, 30.0
 
 
 class Keeper:
@@ -27,6 +29,8 @@ class Keeper:
         if not 0 < every <= 1e6:
             raise ValueError(f"a version is saved every so many seconds, a number above 0, and not {every}")
         self.path, self.every, self.fault, self.reason = path, every, "", ""
+        # How many seconds the last save took.
+        self.took: Optional[float] = None
         # The version that the file has, and since when it may not be the last one any more; nothing where there is no file.
         self._saved: Optional[int] = None
         self._when, self._over = time.monotonic(), threading.Event()
@@ -61,8 +65,10 @@ class Keeper:
         """Saves the last version, if it isn't in the file. A fault is noted and told: the next time it is tried again."""
         try:
             with self._saving, board.lent() as session:
+                begun = time.monotonic()
                 if session.version != self._saved:
                     session.save(self.path, progress=False)
+                    self.took = round(time.monotonic() - begun, 3)
                 self._saved, self._when, self.fault = session.version, time.monotonic(), ""
         except Exception as fault:
             self._failed(fault)
@@ -81,6 +87,11 @@ class Keeper:
         self.fault = getattr(fault, "word", "") or type(fault).__name__
         is_meant = isinstance(fault, (StoreError, OSError))
         log.fault(f"the version isn't saved: {fault}", None if is_meant else fault, f"the version isn't saved: {self.reason}")
+
+    @property
+    def is_late(self) -> bool:
+        """Whether the last save failed, or none came for too long."""
+        return bool(self.fault) or time.monotonic() - self._when > LATE * self.every + SLOW
 
     def told(self) -> Dict[str, Any]:
         """The version that the file has, and how many seconds ago it was the last one; `None` where there is no file yet."""

@@ -34,6 +34,10 @@ CALLS: Dict[str, Dict[str, Call]] = {
         "POST": Call("a batch of the client in Python, applied once for each number", "feed"),
         "DELETE": Call("what that batch did; it can't come any more", "feed")},
     "/openapi.json": {"GET": Call("this description", "none")},
+    "/metrics": {"GET": Call("the server's numbers, in the text form of Prometheus")},
+    "/readyz": {"GET": Call("whether it may be asked; 503 when the feed failed, a save is late, or a file is read at first",
+                             "none")},
+    "/healthz": {"GET": Call("whether it answers", "none")},
 }
 OF_ROWS = {"text/csv": {"schema": {"type": "string"}, "example": "add,transfer,ana,bob,5,1\n"},
            "application/json": {"schema": {"type": "object"}, "example": {"rows": [["add", "transfer", "ana", "bob", 5, 1]]}}}
@@ -73,7 +77,7 @@ def _call(path: str, method: str, call: Call) -> Dict[str, Any]:
         body = {"application/json": {"schema": {"type": "object"}}}
     if body is not None:
         told["requestBody"] = {"required": True, "content": body}
-    if path == "/v1/sessions":
+    if path == "/v1/sessions" and method == "POST":
         told["parameters"].append(_parameter(HELD[1]))
     if path == "/v1/rows":
         told["parameters"].append(_parameter(Parameter("feeder", "the seat of the one that feeds, where it was taken")))

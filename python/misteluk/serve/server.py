@@ -1,6 +1,7 @@
 """A server that runs: where it listens, and its end."""
 from __future__ import annotations
 
+import asyncio
 import os
 import secrets
 import socket
@@ -15,6 +16,7 @@ from .feeding import Feeding
 from .keeping import Keeper
 from .limits import LOOPBACK, ServerLimits
 from .metrics import Counts
+from .notify import Manager
 from .people import People
 from ..engine.protocol import LIBRARY
 from ..errors import Missing, StoreError
@@ -115,13 +117,14 @@ class Server:
     """A store that is served. `start` begins to answer, in a thread of its own; `run` does so in this one, until it is ended."""
 
     def __init__(self, store: "Store[Any, Any]", listen: str = USUAL, *, people: Optional[People] = None,
-                 limits: ServerLimits = ServerLimits(), keeper: Optional[Keeper] = None, began: str = "without an edge") -> None:
+                 limits: ServerLimits = ServerLimits(), keeper: Optional[Keeper] = None, began: str = "without an edge",
+                 manager: Optional[Manager] = None) -> None:
         address, self.people = Address.of(listen), people or People()
         if not self.people.are_any and not address.is_of_here:
             raise ValueError(f"{listen} can be reached from other machines: that wants a token (--token-file)")
         if store.engine.name != LIBRARY:
             raise ValueError("a server has its store in its own process, and serves none of another server")
-        self.limits, self.store, self._keeper = limits.checked(), store, keeper
+        self.limits, self.store, self._keeper, self._manager = limits.checked(), store, keeper, manager or Manager()
         self._socket, self.address = address.bound()
         self.board = Board(store, self.limits)
         self.feeding, self.counts = Feeding(self.board, self.limits), Counts()
@@ -138,15 +141,17 @@ class Server:
             raise Missing(f"{str(fault.name).partition('.')[0]}", "a server") from None
         from .direct import Responder, protocol
         from .ending import made
+        from .health import Health
         from .gate import Gate, Run
         run = Run(secrets.token_urlsafe(9), began)
-        api = Api(self.board, self.feeding, self.limits, run, self._keeper)
         self.door = Door(room_for(self.limits.clients + CONNECTIONS))
+        health = Health(self.board, self.feeding, self._keeper, self.counts, self.door)
+        api = Api(self.board, self.feeding, self.limits, run, self._keeper, health)
         gate = Gate(api.shortcut(), self.people, bool(self.address.path), run, self.door, self.counts)
         config = uvicorn.Config(gate, http=protocol(Responder(gate, api.answers, self.limits), self.door), log_level="critical",
                                 access_log=False, lifespan="off", server_header=False, proxy_headers=False, backlog=AT_ONCE,
                                 timeout_keep_alive=int(self.limits.idle) + 5)
-        return made(uvicorn.Server, config, self._end), api
+        return made(uvicorn.Server, config, self._begin, self._end), api
 
     @property
     def url(self) -> str:
@@ -157,7 +162,11 @@ class Server:
         """Whether a thread is at an answer."""
         return bool(self._api.is_busy)
 
+    def _begin(self) -> None:
+        self._manager.begin(asyncio.get_running_loop(), f"serves {self.url}")
+
     def _end(self) -> None:
+        self._manager.end()
         self.end_feed()
         if self._keeper is None or not self._keeper.fault:  # (else it is tried once more, however long that takes)
             self._saved()

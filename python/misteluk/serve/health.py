@@ -1,0 +1,73 @@
+"""Whether a server is as it should be, and its numbers: for those who watch it."""
+from __future__ import annotations
+
+import resource
+from typing import Iterator, List, Optional
+
+from .board import Board
+from .door import Door
+from .feeding import Feeding
+from .keeping import Keeper
+from .metrics import Counts, Number, gauge, of_numbers
+from ..version import VERSION
+
+
+class Health:
+    """A server's health, by what it consists of."""
+
+    def __init__(self, board: Board, feeding: Feeding, keeper: Optional[Keeper], counts: Counts, door: Door) -> None:
+        self._board, self._feeding, self._keeper, self._counts, self._door = board, feeding, keeper, counts, door
+
+    def faults(self) -> List[str]:
+        """Why it isn't ready to be asked; nothing where it is."""
+        feeding, keeper = self._feeding, self._keeper
+        return [*(["the feed failed"] if feeding.state == "failed" else []),
+                *(["the feed's file is still read for the first time"] if feeding.is_reading else []),
+                *(["a save is late, or failed"] if keeper is not None and keeper.is_late else [])]
+
+    def text(self) -> str:
+        """Its numbers, in the text form of Prometheus."""
+        return "".join([*of_numbers([*self._of_store(), *self._of_feed(), *self._of_save(), *self._of_process()]),
+                        *self._counts.text()])
+
+    def _of_store(self) -> Iterator[Number]:
+        stat, held = self._board.stat, self._board.held()
+        yield gauge("version", "The number of the last version.", stat.version)
+        yield gauge("vertices", "Names of the last version.", stat.names)
+        yield gauge("edges", "Edges of the last version.", stat.edges)
+        yield gauge("versions_held", "Versions that clients hold.", sum(it.clients > 0 for it in held))
+        yield gauge("sessions", "Sessions of clients.", sum(it.clients for it in held))
+        yield "blocks", "Blocks of the store, by what they are.", "gauge", [
+            ({"state": state}, count) for state, count in (("used", stat.used), ("free", stat.free), ("retired", stat.retired))]
+
+    def _of_feed(self) -> Iterator[Number]:
+        told = self._feeding.told()
+        yield gauge("rows_total", "Rows that came in.", told["rows"], "counter")
+        yield gauge("bad_rows_total", "Rows of a followed feed that were passed over.", told["bad"], "counter")
+        yield gauge("expired_edges_total", "Edges that expired.", told["expired"], "counter")
+        yield gauge("behind_bytes", "Bytes of a followed file that weren't read yet.", told.get("behind"))
+        yield gauge("feed_failed", "Whether the feed failed.", told["state"] == "failed")
+
+    def _of_save(self) -> Iterator[Number]:
+        if self._keeper is not None:
+            told = self._keeper.told()
+            yield gauge("saved_version", "The version that the file has.", told["version"])
+            yield gauge("saved_age_seconds", "For how long it may not have been the last one.", told["seconds"])
+            yield gauge("save_seconds", "How long the last save took.", self._keeper.took)
+            yield gauge("save_failed", "Whether the last save failed.", "error" in told)
+
+    def _of_process(self) -> Iterator[Number]:
+        yield "info", "What runs.", "gauge", [({"version": VERSION}, 1)]
+        yield gauge("memory_bytes", "Memory that the process has.", _memory())
+        used = resource.getrusage(resource.RUSAGE_SELF)
+        yield gauge("processor_seconds_total", "Time of processors.", used.ru_utime + used.ru_stime, "counter")
+        yield gauge("connections", "Connections that are open.", self._door.count)
+        yield gauge("connections_refused_total", "Connections that there was no room for.", self._door.refused, "counter")
+
+
+def _memory() -> Optional[int]:
+    try:
+        with open("/proc/self/statm", encoding="ascii") as file:
+            return int(file.read().split()[1]) * resource.getpagesize()
+    except OSError:  # (no Linux)
+        return None
