@@ -5,7 +5,7 @@ import random
 import select
 import socket
 import sys
-from typing import List, Tuple
+from typing import List, Sequence, Tuple
 
 NAMES = ("ana", "funnel", "Иванов", "%", "%00", "%ff", "..", "a b", "*", "~~0123456789abcdefghij", "x" * 300, "", "0", "-1",
          "null", "18446744073709551616", "1e9", "%F0%9F%98%80", "'", '"', "<script>", "\\", "%2e%2e%2f", "true", "nan",
@@ -13,6 +13,7 @@ NAMES = ("ana", "funnel", "Иванов", "%", "%00", "%ff", "..", "a b", "*", "
 PATHS = ("", "v1", "v1/stat", "v1/edge", "v1/out_of", "v1/into", "v1/edges", "v1/levels", "v1/within", "v1/path", "v1/degrees",
          "v1/weights_in", "v1/components", "v1/cores", "v1/names", "v1/view", "v1/sessions", "v1/sessions/zed",
          "v1/sessions/zed/ask", "v1/rows", "v1/feeder", "v1/feeder/zed", "v1/feeder/zed/batches/1", "openapi.json", "live.js",
+         "v1/ask", "metrics", "healthz", "readyz",
          "../etc/passwd", "//", f"v1/feeder/zed/batches/{'1' * 5_000}", "v1/feeder/zed/batches/%D9%A1")
 FIELDS = ("kind", "source", "target", "vertex", "hops", "since", "until", "top", "by", "like", "session", "version", "beside",
           "most", "direction", "feeder", "zed")
@@ -20,7 +21,9 @@ METHODS = ("GET", "GET", "GET", "POST", "POST", "PUT", "DELETE", "HEAD", "PATCH"
 BODIES = ("", "{}", "[]", "null", '{"rows": []}', '{"rows": [["add", "k", "a", "b", 1, 1]]}', '{"call": "cores"}', "\x00",
           '{"call": "found", "ends": 5}', '{"call": "edges", "since": -1}', '{"operations": "a,k,x,y,1,1\\n"}', "add,k,a,b,1,1",
           '{"operations": "commit\\n", "texts": {}}', "[" * 5_000, '{"rows": [["add", "\\ud800", "a", "b"]]}', '{"rows": {}}',
-          "add,k,\"a", "expire,99999999999999999999")
+          "add,k,\"a", "expire,99999999999999999999", 
+          '{"questions": [{"question": "levels", "source": "ana"}, {"question": "x"}]}',
+          '{"questions": [{"question": "cores", "since": "x"}, {"question": {}}, {"question": "names", "like": 5}]}')
 HOSTS = ("localhost", "localhost", "127.0.0.1", "127.0.0.1", "evil")
 KINDS = ("application/json", "text/csv", "text/html", "", "application/json; charset=utf-16", "multipart/form-data")
 # Headers that say who asks, for what, and how: with each of these values, or with none of its own.
@@ -46,8 +49,8 @@ BROKEN = (b"GET / HTTP/1.1\r\n\r\n", b"\x16\x03\x01\x02\x00", b"GET /v1/stat HTT
           b"GET /v1/stat HTTP/1.1\r\nHost: localhost\r\n" + b"X-Y: z\r\n" * 3_000 + b"\r\n")
 
 
-def request(chance: random.Random) -> bytes:
-    """A request as its bytes."""
+def request(chance: random.Random, tokens: Sequence[str] = ()) -> bytes:
+    """A request as its bytes, with one of these tokens, where there are any."""
     if chance.random() < 0.02:
         return chance.choice(BROKEN)
     path = chance.choice(PATHS)
@@ -59,7 +62,8 @@ def request(chance: random.Random) -> bytes:
         at = chance.randrange(len(body))
         body = body[:at] + bytes([chance.randrange(256)]) + body[at + 1:]
     first = f"{chance.choice(METHODS)} /{path} HTTP/1.1".replace(" b", "%20b")
-    return b"\r\n".join([first.encode("utf-8"), *headers(chance, len(body)), b"", body])
+    bearer = [f"Authorization: Bearer {chance.choice(tokens)}".encode("ascii")] if tokens else []
+    return b"\r\n".join([first.encode("utf-8"), *bearer, *headers(chance, len(body)), b"", body])
 
 
 def headers(chance: random.Random, length: int) -> List[bytes]:
@@ -97,11 +101,12 @@ def answer(port: int, asked: bytes, seconds: float) -> bytes:
         return b"".join(parts) or b"closed"
 
 
-def fuzz(port: int, count: int, seed: int, seconds: float = 30.0) -> Tuple[List[Tuple[bytes, bytes]], int]:
+def fuzz(port: int, count: int, seed: int, seconds: float = 30.0,
+         tokens: Sequence[str] = ()) -> Tuple[List[Tuple[bytes, bytes]], int]:
     """Asks so many requests, and gives those that were answered by a fault or not at all, and how many were answered well."""
     chance, wrong, well = random.Random(seed), [], 0
     for _ in range(count):
-        asked = request(chance)
+        asked = request(chance, tokens)
         told = answer(port, asked, seconds)
         if not told or told.startswith(b"HTTP/1.1 500") or b"Traceback" in told:
             wrong.append((asked, told[:500]))

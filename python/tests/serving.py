@@ -10,6 +10,7 @@ import sys
 import unittest
 from typing import Any, Dict, NamedTuple, Optional
 
+from described import wrong
 from support import HERE, Case, optional
 
 import misteluk
@@ -78,7 +79,10 @@ class ServeCase(Case):
         try:
             connection.request(method, path, body, {name.replace("_", "-"): value for name, value in headers.items()})
             found = connection.getresponse()
-            return Told(found.status, {name.lower(): value for name, value in found.headers.items()}, found.read())
+            told = Told(found.status, {name.lower(): value for name, value in found.headers.items()}, found.read())
+            if found.status != 500 and method != "HEAD":  # (each answer is as the server describes it)
+                self.assertEqual(wrong(method, path, told.status, told.headers.get("content-type", ""), told.body), [])
+            return told
         finally:
             connection.close()
 

@@ -21,7 +21,8 @@ CALLS = {
     "none": ["GET /", "GET /live.js", "GET /live.css", "GET /openapi.json", "GET /healthz", "GET /readyz"],
     "read": ["GET /v1/edge", "GET /v1/out_of", "GET /v1/into", "GET /v1/edges", "GET /v1/levels", "GET /v1/within",
              "GET /v1/path", "GET /v1/degrees", "GET /v1/weights_in", "GET /v1/components", "GET /v1/cores", "GET /v1/names",
-             "GET /v1/view", "GET /v1/stat", "GET /metrics", "POST /v1/sessions", "GET /v1/sessions",
+             "GET /v1/view", "GET /v1/stat", "GET /metrics", "GET /v1/events",
+             "POST /v1/ask", "POST /v1/sessions", "GET /v1/sessions",
              "PUT /v1/sessions/{session}",
              "DELETE /v1/sessions/{session}", "POST /v1/sessions/{session}/ask"],
     "feed": ["POST /v1/rows", "POST /v1/feeder", "DELETE /v1/feeder/{feeder}", "POST /v1/feeder/{feeder}/batches/{number}",
@@ -120,6 +121,8 @@ class Roles(ServeCase):
         for least, calls in CALLS.items():
             for call, role in ((call, role) for call in calls for role in (None, *ROLES)):
                 method, path = re.sub(r"\{\w+\}", "1", call).split()
+                if path == "/v1/events" and role in ROLES[1:]:  # (which has no end)
+                    continue
                 found = self.ask(path, method, b"{}", Content_Type="application/json", **self.as_one(role))
                 is_known = role in ROLES[1:]
                 too_little = 403 if is_known and ROLES.index(role) < ROLES.index(least) else None

@@ -23,10 +23,13 @@ from .health import Health
 from .keeping import Keeper
 from .flow import CALL, PERSON, Pool, Streamed, as_json, first_of, within
 from .limits import BODIES, LITTLE, ServerLimits, TooLarge
-from .openapi import CALLS, described
+from .openapi import AFTER, CALLS, described
+from .news import LONGEST, Bell, Events, known_of
 from .page import POLICY, VIEWED
-from .people import Person
+from .people import People, Person
 from .questions import AT_ONCE, HELD, QUESTIONS, QUICK, WHOLE, Parameter, ServedQuestion
+from .several import Several
+from .tables import AS_CSV, CSV, wants_csv
 from ..engine.protocol import Denied
 from ..page.page import style
 from ..errors import NotAllowed, StoreError
@@ -48,9 +51,10 @@ class Api:
     """The calls of a server over a board and a feed."""
 
     def __init__(self, board: Board, feeding: Feeding, limits: ServerLimits, run: Run, keeper: Optional[Keeper],
-                 health: Health) -> None:
+                 health: Health, people: People) -> None:
         self.board, self.feeding, self.limits, self._run, self._keeper = board, feeding, limits, run, keeper
-        self.health = health
+        self.health, self.people, self.bell = health, people, Bell()
+        board.ring = self.bell.ring
         self.store = board.store
         self.quick = Pool(QUICK_THREADS, limits, "quick")
         # (to let a version go waits for a batch that is being applied)
@@ -73,7 +77,8 @@ class Api:
         # (routes are looked through in order: those that are asked most come first)
         held = [("POST", "/v1/sessions/{session}/ask", self.ask), ("POST", "/v1/sessions", self.hold),
                 ("PUT", "/v1/sessions/{session}", self.keep), ("DELETE", "/v1/sessions/{session}", self.let_go)]
-        others = [("GET", "/v1/stat", self.stat), ("GET", "/v1/sessions", self.sessions), ("POST", "/v1/rows", self.rows),
+        others = [("GET", "/v1/stat", self.stat), ("GET", "/v1/events", self.events), ("POST", "/v1/ask", self.several),
+                  ("GET", "/v1/sessions", self.sessions), ("POST", "/v1/rows", self.rows),
                   ("POST", "/v1/feeder", self.claim), ("DELETE", "/v1/feeder/{feeder}", self.leave),
                   ("POST", "/v1/feeder/{feeder}/batches/{number}", self.batch),
                   ("DELETE", "/v1/feeder/{feeder}/batches/{number}", self.landed), ("GET", "/openapi.json", self.description),
@@ -114,46 +119,51 @@ class Api:
     # What is asked.
 
     def _asking(self, question: ServedQuestion) -> Callable[[Request], Any]:
-        parameters = {it.name: it for it in (*question.parameters, *HELD)}
-
         async def handle(request: Request) -> Any:
-            given: Dict[str, Any] = {}
             if _ZONE_OR_TIME.search(request.url.query):
                 raise ValueError("a + in an address stands for a space: write %2B before a zone, and T before a time of day")
-            for name, text in request.query_params.multi_items():
-                if name not in parameters or name in given:
-                    raise ValueError(f"{question.name} takes each of these once: {', '.join(parameters)}")
-                given[name] = parameters[name].read(text)
-            for it in question.parameters:
-                if it.is_needed and not given.get(it.name):
-                    if it.least is None or it.name not in given:
-                        raise ValueError(f"{question.name} is asked with {it.name}: {it.about}")
-            return await self._answered(lambda: self._parts(question, given, _person(request)), question.media, question.way)
+            given, person = question.given(request.query_params.multi_items(), HELD), _person(request)
+            is_csv = question.columns != () and wants_csv(request.headers.get("accept", ""))
+            given = {**given, **({AS_CSV: True} if is_csv else {})}
+            return await self._answered(lambda headers: self._parts(question, given, person, headers),
+                                        CSV if is_csv else question.media, question.way)
         return handle
 
-    def _parts(self, question: ServedQuestion, given: Dict[str, Any], person: Person) -> Iterator[bytes]:
+    def _parts(self, question: ServedQuestion, given: Dict[str, Any], person: Person, headers: Dict[str, str]) -> Iterator[bytes]:
         beside = given.get("beside")
         with self.board.lent(given.get("session"), given.get("version"), person) as session:
+            headers["misteluk-version"] = str(session.version)
             if beside is None:
                 yield from question.answer(session, given)
                 return
             with self.board.lent(version=beside) as other:
                 yield from question.answer(session, {**given, "beside_session": other})
 
-    async def _answered(self, parts: Callable[[], Iterator[bytes]], media: str, way: int) -> Any:
+    async def several(self, request: Request) -> Any:
+        """Several questions of one version."""
+        asked, person = Several.of(await self._object(request)), _person(request)
+        return await self._answered(lambda _: asked.parts(self.board, person), wire.JSON, WHOLE)
+
+    async def _answered(self, parts: Callable[[Dict[str, str]], Iterator[bytes]], media: str, way: int) -> Any:
+        """An answer, whose parts add headers of their own as they begin."""
         headers = {"content-type": media, **({"content-security-policy": VIEWED} if media.startswith("text/html") else {})}
         if way == AT_ONCE and not self.board.is_busy:
-            return Response(b"".join(parts()), headers=headers)
+            found = b"".join(parts(headers))
+            return Response(found, headers=headers)
         pool = self.slow if way == WHOLE else self.quick
-        flow, first, is_more = await pool.run(lambda: first_of(parts), lambda it: it[0].close())
+        flow, first, is_more = await pool.run(lambda: first_of(lambda: parts(headers)), lambda it: it[0].close())
         if not is_more:
             return Response(first, headers=headers)
         return Streamed(flow, first, headers, self.slow, self.limits)
 
     async def stat(self, request: Request) -> Response:
-        """What the store holds; no question waits for the feed by it."""
+        """What the store holds; no question waits for the feed by it. With `after` it waits for a version above that one."""
+        if set(request.query_params) - {AFTER.name} or len(request.query_params.multi_items()) > 1:
+            raise ValueError("stat is asked with nothing, or with after")
         if request.query_params:
-            raise ValueError("stat is asked with nothing")
+            after: int = AFTER.read(request.query_params[AFTER.name])
+            request.scope[CALL] = "stat_after"
+            await self.bell.until(lambda: self.board.stat.version > after, min(LONGEST, self.limits.time))
         stat, units = self.board.stat, self.store.ledger.terms.units
         told = {"server": self._run.name, "began": self._run.began, "saved": self._keeper and self._keeper.told(),
                 "version": stat.version, "vertices": stat.names, "edges": stat.edges,
@@ -165,6 +175,17 @@ class Api:
                 "units": {"weight_scale": units.weight_scale, "times": units.times, "decimals": units.decimals,
                           "rounding": units.rounding}}
         return as_json(told)
+
+    async def events(self, request: Request) -> Events:
+        """Each version's counts, as events sent by the server."""
+        people, changes = self.people, self.people.changes
+        return Events(self.bell, self.board, self._counted, self._run.name, self.limits, lambda: bool(people.changes == changes),
+                      known_of(request, self._run.name))
+
+    def _counted(self) -> Dict[str, Any]:
+        stat, rate = self.board.stat, self.feeding.rate
+        return {"version": stat.version, "vertices": stat.names, "edges": stat.edges, "rows": rate.total,
+                "rows_a_second": round(rate.a_second(), 1)}
 
     async def description(self, request: Request) -> Response:
         return as_json(described())
@@ -210,7 +231,7 @@ class Api:
         """A question of a client in Python, in the engine's terms."""
         asked = await self._object(request)
         name, call = request.path_params["session"], str(asked.get("call"))
-        return await self._answered(lambda: self.answers.parts(name, asked, _person(request)), wire.COLUMNS,
+        return await self._answered(lambda _: self.answers.parts(name, asked, _person(request)), wire.COLUMNS,
                                     QUICK if call in OF_FEW else WHOLE)
 
     # The feed.

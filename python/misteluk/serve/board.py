@@ -82,6 +82,8 @@ class Board:
         self._leases: Dict[str, Lease] = {}
         self.stat: Stat = store.stat()
         self._last = Shared(store.open())
+        # What is called when there is another last version.
+        self.ring: Callable[[], None] = lambda: None
         self._held: Dict[int, Shared] = {self._last.version: self._last}
 
     def advance(self) -> None:
@@ -96,6 +98,7 @@ class Board:
                 self.stat, before = stat, self._last
                 self._last = self._held[session.version] = Shared(session)
                 self._drop(before)
+            self.ring()
 
     @contextmanager
     def _locked(self) -> Iterator[None]:

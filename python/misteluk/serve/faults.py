@@ -19,21 +19,25 @@ REASONS = {"NoVertex": "the version has no vertex of this name; a later one may"
 
 def told_fault(fault: Exception, scope: MutableMapping[str, Any]) -> Response:
     """A fault as a client is told it, whose request notes its word."""
-    scope[WORD] = "TooLarge" if isinstance(fault, TooLarge) else _status(fault)[1]
+    scope[WORD] = "TooLarge" if isinstance(fault, TooLarge) else status_and_word(fault)[1]
     if isinstance(fault, Full):
         return as_json(wire.fault(fault.word, str(fault), fault.after), 503, {"retry-after": str(fault.after)})
     if isinstance(fault, TooLarge):
         return as_json(wire.fault("TooLarge", str(fault)), 413, {"connection": "close"})
-    status, word = _status(fault)
+    status, word = status_and_word(fault)
     more: Dict[str, Any] = {"denied": True} if isinstance(fault, Denied) else {}
     if isinstance(fault, Denied) and fault.stat is not None:
         more["stat"] = fault.stat._asdict()
+    return as_json(wire.fault(word, told_of(fault, word), **more), status)
+
+
+def told_of(fault: Exception, word: str) -> str:
+    """The reason of a fault that has this word."""
     told = REASONS.get(word) or (fault.told if isinstance(fault, Refused) else str(fault))
-    told = told[len(word) + 2:] if told.startswith(f"{word}: ") else told
-    return as_json(wire.fault(word, told, **more), status)
+    return told[len(word) + 2:] if told.startswith(f"{word}: ") else told
 
 
-def _status(fault: Exception) -> Tuple[int, str]:
+def status_and_word(fault: Exception) -> Tuple[int, str]:
     word = getattr(fault, "word", "") or type(fault).__name__
     is_known = isinstance(fault, (StoreError, Denied))
     return TABLE[word].status if is_known and word in TABLE else 400, word if is_known else "BadRequest"

@@ -134,7 +134,7 @@ class Streamed:
         self._headers = [(name.encode("ascii"), value.encode("ascii")) for name, value in headers.items()]
 
     async def __call__(self, scope: Any, receive: Receive, send: Send) -> None:
-        gone = asyncio.ensure_future(self._gone(receive))
+        gone = asyncio.ensure_future(self.gone(receive))
         try:
             await send({"type": "http.response.start", "status": 200, "headers": self._headers})
             part, is_more = self._first, True
@@ -149,7 +149,7 @@ class Streamed:
             self._flow.close()
 
     @staticmethod
-    async def _gone(receive: Receive) -> None:
+    async def gone(receive: Receive) -> None:
         """Ends when the reader goes."""
         while (await receive())["type"] != "http.disconnect":
             pass

@@ -19,6 +19,8 @@ LITTLE = 1 << 16
 BODIES, MOST_ROWS = 8, 1_000_000
 # How many values an array has at most that isn't a post's rows: of so many edges a client asks at once.
 MOST_VALUES = 1 << 16
+# How many questions one request may have.
+MOST_QUESTIONS = 100
 # Within how many seconds a connection has to ask something that is let in, and how many that asked nothing yet a peer may have.
 FIRST, STRANGERS = 10.0, 256
 

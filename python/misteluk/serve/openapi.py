@@ -3,41 +3,58 @@ from __future__ import annotations
 
 from typing import Any, Dict, NamedTuple, Optional
 
+from . import schemas
 from .questions import HELD, QUESTIONS, Parameter, ServedQuestion
+from .schemas import Schema
 from ..version import VERSION
 
 # What each fault is told for, by its status.
 FAULTS = {400: "it isn't asked so", 401: "the token is wrong or lacks", 403: "it is for those with another role",
           404: "the version has no such vertex or kind",
-          410: "the session's version was let go", 413: "it is too long",
+          405: "the call has another method", 409: "another feeds, or there is no room", 410: "the session's version was let go",
+          413: "it is too long",
           503: "no seat, or too many ask; `Retry-After` has seconds"}
 class Call(NamedTuple):
-    """What a call does, and the role of those who may ask it."""
+    """What a call does, the form of its answer, its media type and status, and the role of those who may ask it."""
 
     about: str
+    answer: Optional[Schema] = None
     role: str = "read"
+    status: int = 200
+    media: str = "application/json"
 
 
+DONE = 204
+# What stat waits for.
+AFTER = Parameter("after", "a version's number, above which the last one is awaited for 25 s at most", least=0)
 # Calls beside the questions, which those with the role read may ask.
 CALLS: Dict[str, Dict[str, Call]] = {
-    "/v1/stat": {"GET": Call("what the store holds, who holds which version, how fast it is fed, and which rows weren't taken")},
-    "/v1/sessions": {"POST": Call("holds the last version, or `version`, until the session is let go or silent too long"),
-                     "GET": Call("the sessions of who asks; of all for an admin")},
-    "/v1/sessions/{session}": {"PUT": Call("says that the session is in use"),
-                               "DELETE": Call("lets its version go; an admin may end another's")},
-    "/v1/sessions/{session}/ask": {"POST": Call("a question of the client in Python, whose answer is columns of bytes")},
+    "/v1/stat": {"GET": Call("what the store holds, who holds which version, how fast it is fed, and which rows weren't taken; "
+                             "with `after` as soon as there is a version above that one", schemas.STAT)},
+    "/v1/events": {"GET": Call("each version's counts, as events; a reader that comes again says its Last-Event-ID",
+                               schemas.TEXT, media="text/event-stream")},
+    "/v1/ask": {"POST": Call("several questions of one version, a hundred at most", schemas.SEVERAL)},
+    "/v1/sessions": {"POST": Call("holds the last version, or `version`, until the session is let go or silent too long",
+                                  schemas.SESSION, status=201),
+                     "GET": Call("the sessions of who asks; of all for an admin", schemas.SESSIONS)},
+    "/v1/sessions/{session}": {"PUT": Call("says that the session is in use", schemas.SESSION),
+                               "DELETE": Call("lets its version go; an admin may end another's", status=DONE)},
+    "/v1/sessions/{session}/ask": {"POST": Call("a question of the client in Python, whose answer is columns of bytes",
+                                                schemas.TEXT, media="application/octet-stream")},
     "/v1/rows": {"POST": Call("applies rows, a million at most: text/csv or JSON, each an operation (insert, add, remove, "
-                              "expire) and its fields", "feed")},
-    "/v1/feeder": {"POST": Call("takes the seat of the one that feeds the store; 409 where another has it", "feed")},
-    "/v1/feeder/{feeder}": {"DELETE": Call("gives that seat back", "feed")},
+                              "expire) and its fields", schemas.RECEIPT, "feed")},
+    "/v1/feeder": {"POST": Call("takes the seat of the one that feeds the store; 409 where another has it",
+                                schemas.of({"feeder": schemas.TEXT, "idle": schemas.NUMBER}), "feed", 201)},
+    "/v1/feeder/{feeder}": {"DELETE": Call("gives that seat back", None, "feed", DONE)},
     "/v1/feeder/{feeder}/batches/{number}": {
-        "POST": Call("a batch of the client in Python, applied once for each number", "feed"),
-        "DELETE": Call("what that batch did; it can't come any more", "feed")},
-    "/openapi.json": {"GET": Call("this description", "none")},
-    "/metrics": {"GET": Call("the server's numbers, in the text form of Prometheus")},
+        "POST": Call("a batch of the client in Python, applied once for each number", schemas.RECEIPT, "feed"),
+        "DELETE": Call("what that batch did; it can't come any more",
+                       schemas.of({"receipt": schemas.or_null(schemas.RECEIPT)}), "feed")},
+    "/openapi.json": {"GET": Call("this description", {"type": "object"}, "none")},
+    "/metrics": {"GET": Call("the server's numbers, in the text form of Prometheus", schemas.TEXT, media="text/plain")},
     "/readyz": {"GET": Call("whether it may be asked; 503 when the feed failed, a save is late, or a file is read at first",
-                             "none")},
-    "/healthz": {"GET": Call("whether it answers", "none")},
+                            schemas.STATUS, "none")},
+    "/healthz": {"GET": Call("whether it answers", schemas.STATUS, "none")},
 }
 OF_ROWS = {"text/csv": {"schema": {"type": "string"}, "example": "add,transfer,ana,bob,5,1\n"},
            "application/json": {"schema": {"type": "object"}, "example": {"rows": [["add", "transfer", "ana", "bob", 5, 1]]}}}
@@ -52,35 +69,45 @@ def _parameter(it: Parameter, place: str = "query") -> Dict[str, Any]:
 
 
 def _faults() -> Dict[str, Any]:
-    told = {"type": "object", "required": ["error", "reason"],
-            "properties": {"error": {"type": "string"}, "reason": {"type": "string"}, "retry_after": {"type": "integer"}}}
-    content = {"application/json": {"schema": told}}
+    content = {"application/json": {"schema": schemas.FAULT}}
     return {str(status): {"description": text, "content": content} for status, text in FAULTS.items()}
 
 
 def _question(it: ServedQuestion) -> Dict[str, Any]:
     media, *_ = it.media.partition(";")
-    schema = {"type": "object" if media == "application/json" else "string"}
-    answer = {"description": it.about, "content": {media: {"schema": schema}}}
+    more = {"found": schemas.WHOLE} if it.name == "names" else {}
+    content = {media: {"schema": schemas.table(it.columns, **more) if it.columns else schemas.ANSWERS[it.name]}}
+    if it.columns:
+        content["text/csv"] = {"schema": schemas.TEXT}
+    version = {"misteluk-version": {"schema": schemas.WHOLE, "description": "the version that was asked"}}
+    answer = {"description": it.about, "headers": version, "content": content}
     return {"get": {"summary": it.about, "x-role": "read", "operationId": it.name,
                     "parameters": list(map(_parameter, (*it.parameters, *HELD))), "responses": {"200": answer, **_faults()}}}
 
 
+# What calls are asked with in their addresses, and their bodies.
+ASKED = {"POST /v1/sessions": HELD[1], "POST /v1/rows": Parameter("feeder", "the seat of the one that feeds, where it was taken"),
+         "GET /v1/stat": AFTER}
+_OBJECT = {"application/json": {"schema": {"type": "object"}}}
+BODIES = {"POST /v1/rows": OF_ROWS, "POST /v1/sessions/{session}/ask": _OBJECT,
+          "POST /v1/feeder/{feeder}/batches/{number}": _OBJECT,
+          "POST /v1/ask": {"application/json": {
+              "schema": {"type": "object"},
+              "example": {"questions": [{"question": "levels", "source": "ana"}, {"question": "degrees", "top": 5}]}}}}
+
+
 def _call(path: str, method: str, call: Call) -> Dict[str, Any]:
-    named = [part[1:-1] for part in path.split("/") if part.startswith("{")]
-    about = call.about
-    told: Dict[str, Any] = {"summary": about, "x-role": call.role,
+    name, named = f"{method} {path}", [part[1:-1] for part in path.split("/") if part.startswith("{")]
+    answer: Dict[str, Any] = {"description": call.about}
+    if call.answer is not None:
+        answer["content"] = {call.media: {"schema": call.answer}}
+    told: Dict[str, Any] = {"summary": call.about, "x-role": call.role,
                             "parameters": [_parameter(Parameter(it, it, True), "path") for it in named],
-                            "responses": {"2XX": {"description": about}, **_faults()}}
-    body: Optional[Dict[str, Any]] = OF_ROWS if path == "/v1/rows" else None
-    if path.endswith("/ask") or "batches" in path and method == "POST":
-        body = {"application/json": {"schema": {"type": "object"}}}
-    if body is not None:
-        told["requestBody"] = {"required": True, "content": body}
-    if path == "/v1/sessions" and method == "POST":
-        told["parameters"].append(_parameter(HELD[1]))
-    if path == "/v1/rows":
-        told["parameters"].append(_parameter(Parameter("feeder", "the seat of the one that feeds, where it was taken")))
+                            "responses": {str(call.status): answer, **_faults()}}
+    if name in BODIES:
+        told["requestBody"] = {"required": True, "content": BODIES[name]}
+    if name in ASKED:
+        told["parameters"].append(_parameter(ASKED[name]))
     return told
 
 

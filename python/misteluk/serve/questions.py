@@ -2,9 +2,9 @@
 from __future__ import annotations
 
 import json
-from typing import Any, Callable, Dict, Iterator, List, Mapping, NamedTuple, Optional, Sequence, Tuple
+from typing import Any, Callable, Dict, Iterable, Iterator, List, Mapping, NamedTuple, Optional, Sequence, Tuple
 
-from .limits import ROWS_AT_ONCE
+from .tables import Part, columns
 from ..page.view import MOST_DRAWN, MOST_HOPS, USUAL_DRAWN, view
 from ..session import Session
 from ..values.answers import BY_COLUMN, Answer, Edge, Values
@@ -14,8 +14,6 @@ from ..values.texts import for_json
 Given = Mapping[str, Any]
 # How a question is answered: at once, or by threads, where one over the whole graph doesn't delay a quick one.
 AT_ONCE, QUICK, WHOLE = range(3)
-# The rows of a column from one place to another.
-Part = Callable[[int, int], Sequence[Any]]
 
 
 class Parameter(NamedTuple):
@@ -47,8 +45,24 @@ class ServedQuestion(NamedTuple):
     about: str
     parameters: Tuple[Parameter, ...]
     answer: Callable[["Session[Any, Any]", Given], Iterator[bytes]]
+    # The columns of its table; none where it answers otherwise.
+    columns: Tuple[str, ...] = ()
     way: int = WHOLE
     media: str = "application/json"
+
+    def given(self, pairs: Iterable[Tuple[str, str]], held: Sequence[Parameter]) -> Dict[str, Any]:
+        """What it is asked with, by texts, and of which version. Raises `ValueError` where one is none or lacks."""
+        parameters = {it.name: it for it in (*self.parameters, *held)}
+        found: Dict[str, Any] = {}
+        for name, text in pairs:
+            if name not in parameters or name in found:
+                raise ValueError(f"{self.name} takes each of these once: {', '.join(parameters)}")
+            found[name] = parameters[name].read(text)
+        for it in self.parameters:
+            if it.is_needed and not found.get(it.name):
+                if it.least is None or it.name not in found:
+                    raise ValueError(f"{self.name} is asked with {it.name}: {it.about}")
+        return found
 
 
 # What is written.
@@ -56,18 +70,6 @@ class ServedQuestion(NamedTuple):
 def whole(session: "Session[Any, Any]", told: Dict[str, Any]) -> Iterator[bytes]:
     """A short answer."""
     yield json.dumps({"version": session.version, **told}, default=for_json).encode("ascii") + b"\n"
-
-
-def columns(head: Dict[str, Any], count: int, parts: Dict[str, Part]) -> Iterator[bytes]:
-    """Columns of one length, as lists by name."""
-    yield json.dumps({**head, "rows": count}).encode("ascii")[:-1] + b', "columns": {'
-    for before, (name, part) in zip(["", *[", "] * len(parts)], parts.items()):
-        yield f'{before}"{name}": ['.encode("ascii")
-        for at in range(0, count, ROWS_AT_ONCE):
-            rows = json.dumps(list(part(at, min(at + ROWS_AT_ONCE, count))), default=for_json)[1:-1]
-            yield (f", {rows}" if at else rows).encode("ascii")
-        yield b"]"
-    yield b"}}\n"
 
 
 def table(session: "Session[Any, Any]", found: "Answer[Any]", given: Given) -> Iterator[bytes]:
@@ -78,8 +80,9 @@ def table(session: "Session[Any, Any]", found: "Answer[Any]", given: Given) -> I
         fields = list(found.columns)
         values: List[Any] = [list(it) for it in zip(*(it if len(fields) > 1 else (it,) for _, it in rows))] or [[]] * len(fields)
         told = {"name": [name for name, _ in rows], **dict(zip(fields, values))}
-        return columns(head, len(rows), {name: _rows(it) for name, it in told.items()})
-    return columns(head, len(found), {"name": _rows(found.names), **{name: _values(it) for name, it in found.columns.items()}})
+        return columns(head, len(rows), {name: _rows(it) for name, it in told.items()}, given)
+    parts = {"name": _rows(found.names), **{name: _values(it) for name, it in found.columns.items()}}
+    return columns(head, len(found), parts, given)
 
 
 def _rows(rows: Sequence[Any]) -> Part:
@@ -107,8 +110,8 @@ def edges(session: "Session[Any, Any]", found: Edges, given: Given) -> Iterator[
         rows = found.top(given["top"])
         told = dict(zip(("kind", "source", "target", *Edge._fields), zip(*((*ends, *edge) for *ends, edge in rows))))
         parts = {it: _rows(told.get(it, ())) for it in edges_parts(found)}
-        return columns({"version": session.version}, len(rows), parts)
-    return columns({"version": session.version}, len(found), edges_parts(found))
+        return columns({"version": session.version}, len(rows), parts, given)
+    return columns({"version": session.version}, len(found), edges_parts(found), given)
 
 
 # What is asked.
@@ -158,7 +161,7 @@ def _names(session: "Session[Any, Any]", given: Given) -> Iterator[bytes]:
     found = [it for it in all_names if text in it.casefold()]
     found.sort(key=lambda it: (not it.casefold().startswith(text), len(it)))
     names = found[:given.get("top", 20)]
-    return columns({"version": session.version, "found": len(found)}, len(names), {"name": _rows(names)})
+    return columns({"version": session.version, "found": len(found)}, len(names), {"name": _rows(names)}, given)
 
 
 def _view(session: "Session[Any, Any]", given: Given) -> Iterator[bytes]:
@@ -178,22 +181,27 @@ ENDS = (Parameter("source", "a vertex's name", True), Parameter("target", "a ver
 WAY = Parameter("direction", "along edges, or either way", choices=("out", "both"))
 HOPS = Parameter("hops", "how many steps away", True, 0, 1_000)
 
+OF_EDGES, OF_LEVELS = ("kind", "source", "target", *Edge._fields), ("name", "level")
+
 QUESTIONS = (
-    ServedQuestion("edge", "one edge, or null", (Parameter("kind", "a kind", True), *ENDS), _edge, AT_ONCE),
-    ServedQuestion("out_of", "the edges that go out of a vertex", (*VERTEX, *SCOPE, *TOP), _out_of, QUICK),
-    ServedQuestion("into", "the edges that come into a vertex", (*VERTEX, *SCOPE, *TOP), _into),
-    ServedQuestion("edges", "all edges", (*SCOPE, *TOP), _edges),
+    ServedQuestion("edge", "one edge, or null", (Parameter("kind", "a kind", True), *ENDS), _edge, way=AT_ONCE),
+    ServedQuestion("out_of", "the edges that go out of a vertex", (*VERTEX, *SCOPE, *TOP), _out_of, OF_EDGES, QUICK),
+    ServedQuestion("into", "the edges that come into a vertex", (*VERTEX, *SCOPE, *TOP), _into, OF_EDGES),
+    ServedQuestion("edges", "all edges", (*SCOPE, *TOP), _edges, OF_EDGES),
     ServedQuestion("levels", "how many steps each vertex is from a source that is reached from it",
-                   (Parameter("source", "a vertex's name", True), *SCOPE, *TOP), _levels),
+                   (Parameter("source", "a vertex's name", True), *SCOPE, *TOP), _levels, OF_LEVELS),
     ServedQuestion("within", "the vertices within so many steps",
-                   (*VERTEX, HOPS, WAY, *SCOPE, *TOP), _within),
+                   (*VERTEX, HOPS, WAY, *SCOPE, *TOP), _within, OF_LEVELS),
     ServedQuestion("path", "a shortest walk as its names, or null", (*ENDS, *SCOPE), _path),
     ServedQuestion("degrees", "how many edges go out of each vertex and come in, and the weight that goes out",
-                   (*SCOPE, *TOP, *BY), _table("degrees")),
-    ServedQuestion("weights_in", "the weight that comes into each vertex", (*SCOPE, *TOP), _table("weights_in")),
-    ServedQuestion("components", "a label for each vertex, the same for those that edges join", SCOPE, _table("components")),
-    ServedQuestion("cores", "each vertex's core number", (*SCOPE, *TOP), _table("cores")),
-    ServedQuestion("names", "names of vertices that have a text", (Parameter("like", "a part of a name"), *TOP), _names),
+                   (*SCOPE, *TOP, *BY), _table("degrees"), ("name", "out", "into", "weight_out")),
+    ServedQuestion("weights_in", "the weight that comes into each vertex", (*SCOPE, *TOP), _table("weights_in"),
+                   ("name", "weight_in")),
+    ServedQuestion("components", "a label for each vertex, the same for those that edges join", SCOPE, _table("components"),
+                   ("name", "label")),
+    ServedQuestion("cores", "each vertex's core number", (*SCOPE, *TOP), _table("cores"), ("name", "core")),
+    ServedQuestion("names", "names of vertices that have a text", (Parameter("like", "a part of a name"), *TOP), _names,
+                   ("name",)),
     ServedQuestion("view", "a page of a vertex's neighborhood, beside that of another version where one is said",
                    (*VERTEX, HOPS._replace(is_needed=False, most=MOST_HOPS),
                     Parameter("beside", "a version that is held", least=0),

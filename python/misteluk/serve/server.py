@@ -146,7 +146,7 @@ class Server:
         run = Run(secrets.token_urlsafe(9), began)
         self.door = Door(room_for(self.limits.clients + CONNECTIONS))
         health = Health(self.board, self.feeding, self._keeper, self.counts, self.door)
-        api = Api(self.board, self.feeding, self.limits, run, self._keeper, health)
+        api = Api(self.board, self.feeding, self.limits, run, self._keeper, health, self.people)
         gate = Gate(api.shortcut(), self.people, bool(self.address.path), run, self.door, self.counts)
         config = uvicorn.Config(gate, http=protocol(Responder(gate, api.answers, self.limits), self.door), log_level="critical",
                                 access_log=False, lifespan="off", server_header=False, proxy_headers=False, backlog=AT_ONCE,
@@ -167,6 +167,7 @@ class Server:
 
     def _end(self) -> None:
         self._manager.end()
+        self._api.bell.close()
         self.end_feed()
         if self._keeper is None or not self._keeper.fault:  # (else it is tried once more, however long that takes)
             self._saved()

@@ -1,0 +1,217 @@
+"""What answers look like: CSV, several at once, events, a version that is awaited; and that each is as it is described."""
+import csv
+import http.client
+import io
+import json
+import os
+import threading
+import time
+import unittest
+
+from described import faults, wrong
+from serving import FEED, ServeCase
+
+from misteluk.serve import news, schemas
+from misteluk.serve.limits import ServerLimits
+from misteluk.serve.people import People
+from misteluk.serve.questions import QUESTIONS
+from misteluk.serve.tables import wants_csv
+
+ODD = ('a "quoted" name', "a,b", "line\nbreak", "Иванов Пётр")
+ASKED = {"out_of": "vertex=ana", "into": "vertex=funnel", "levels": "source=ana", "within": "vertex=ana&hops=2"}
+
+
+class Csv(ServeCase):
+    def csv_of(self, path):
+        found = self.ask(path, Accept="text/csv")
+        self.assertEqual((found.status, found.headers["content-type"]), (200, "text/csv; charset=utf-8; header=present"), path)
+        return found, list(csv.reader(io.StringIO(found.body.decode("utf-8"), newline="")))
+
+    def test_each_table(self):
+        """The same rows as JSON has them, with the names of its columns above them."""
+        self.fed(*FEED, *(["add", "k", it, "hub", 1.5, 1] for it in ODD), weight_scale=100)
+        tables = [it.name for it in QUESTIONS if it.columns]
+        self.assertEqual(len(tables), 10)
+        for name in tables:
+            for more in ("", "top=2", "top=0"):
+                path = f"/v1/{name}?{'&'.join(filter(None, (ASKED.get(name), more if name != 'components' else '')))}"
+                found, (head, *rows) = self.csv_of(path)
+                columns = self.ask(path).json["columns"]
+                self.assertEqual(head, list(columns), path)
+                self.assertEqual(rows, [list(map(str, it)) for it in zip(*columns.values())], path)
+                self.assertEqual(found.headers["misteluk-version"], "1")
+        self.assertIn(["k", ODD[0], "hub", "1.50", "1", "1"], self.csv_of("/v1/edges")[1])
+
+    def test_dates_and_many_rows(self):
+        rows = [["add", "k", f"a{it}", "b", 1, f"2024-03-{it % 28 + 1:02}"] for it in range(5_000)]
+        self.fed(*rows, times="iso")
+        _, (_, *found) = self.csv_of("/v1/edges")
+        self.assertEqual((len(found), {it[4][:10] for it in found}), (5_000, {it[5] for it in rows}))
+
+    def test_what_has_no_table(self):
+        self.fed()
+        for path in ("/v1/edge?kind=transfer&source=ana&target=funnel", "/v1/path?source=ana&target=funnel", "/v1/stat"):
+            self.assertEqual(self.ask(path, Accept="text/csv").headers["content-type"], "application/json", path)
+        self.assertEqual(self.ask("/v1/levels?source=zed", Accept="text/csv").json["error"], "NoVertex")
+
+    def test_who_wants_it(self):
+        for accept, is_wanted in (("text/csv", True), ("TEXT/CSV", True), ("text/csv;q=0", False), ("", False), ("*/*", False),
+                                  ("text/csv, application/json", True), ("application/json, text/csv", False), ("text/*", False),
+                                  ("application/json;q=0.5, text/csv;q=0.9", True), ("text/csv;q=0.4,application/json", False),
+                                  ("text/html, text/csv;q=0.1", True), ("text/csv;q=x", True), ("text/csvx", False),
+                                  (",;,", False),
+                                  ("text/csv;header=present;q=0.2, application/json;q=0.1", True)):
+            self.assertEqual(wants_csv(accept), is_wanted, accept)
+
+
+class Many(ServeCase):
+    def test_of_one_version(self):
+        """Each answer is the one that its question has alone, of the version that all were asked of."""
+        self.fed()
+        session = self.post("/v1/sessions").json["session"]
+        self.post("/v1/rows", {"rows": [["add", "transfer", "zed", "funnel", 7, 5]]})
+        questions = [{"question": "levels", "source": "ana"}, {"question": "degrees", "top": 2, "by": "weight"},
+                     {"question": "edge", "kind": "transfer", "source": "zed", "target": "funnel"},
+                     {"question": "edges", "since": 2}, {"question": "path", "source": "zed", "target": "offshore"}]
+        alone = ["levels?source=ana", "degrees?top=2&by=weight", "edge?kind=transfer&source=zed&target=funnel", "edges?since=2",
+                 "path?source=zed&target=offshore"]
+        for more, version in (({}, 2), ({"session": session}, 1), ({"version": 1}, 1)):
+            told = self.post("/v1/ask", {"questions": questions, **more}).json
+            self.assertEqual(told["version"], version)
+            for path, answer in zip(alone, told["answers"]):
+                found = self.ask(f"/v1/{path}{'&' if '?' in path else '?'}version={version}")
+                answer.pop("status", None) if found.status != 200 else None
+                self.assertEqual(answer, found.json, path)
+
+    def test_faults(self):
+        """One question's fault takes nothing from the others; a body that is none is refused as a whole."""
+        self.fed()
+        questions = [{"question": "levels", "source": "zed"}, {"question": "sql"}, {"question": "view"},
+                     {"question": "cores", "version": 1}, {"question": "levels", "source": None}, {"question": "cores", "top": 1}]
+        told = self.post("/v1/ask", {"questions": questions}).json["answers"]
+        self.assertEqual([(it.get("error"), it.get("status")) for it in told],
+                         [("NoVertex", 404), *[("BadRequest", 400)] * 4, (None, None)])
+        self.assertEqual(told[-1], self.ask("/v1/cores?top=1").json)
+        for body in ({}, {"questions": 5}, {"questions": [5]}, {"questions": [{"question": "cores"}] * 101},
+                     {"questions": [], "x": 1}, {"questions": [], "version": -1}, {"questions": [], "version": [1]}):
+            self.assertEqual(self.post("/v1/ask", body).status, 400, body)
+        self.assertEqual(self.post("/v1/ask", {"questions": []}).json, {"version": 1, "answers": []})
+        self.assertEqual(self.post("/v1/ask", {"questions": [], "version": 9}).status, 410)
+
+
+class Awaited(ServeCase):
+    def later(self, seconds=0.3):
+        thread = threading.Timer(seconds, self.post, ["/v1/rows", {"rows": [["add", "transfer", "zed", "funnel", 7, 5]]}])
+        thread.start()
+        self.addCleanup(thread.join)
+
+    def test_a_version(self):
+        self.fed()
+        begun = time.monotonic()
+        self.assertEqual(self.ask("/v1/stat?after=0").json["version"], 1)
+        self.assertLess(time.monotonic() - begun, 20)  # (else it would take 25 s)
+        self.later()
+        begun = time.monotonic()
+        self.assertEqual(self.ask("/v1/stat?after=1").json["version"], 2)
+        self.assertTrue(0.2 < time.monotonic() - begun < 20)
+        for wrong_one in ("after=x", "after=-1", "after=", "after=1&after=2", "after=1&x=2", "since=1"):
+            self.assertEqual(self.ask(f"/v1/stat?{wrong_one}").status, 400, wrong_one)
+
+    def test_none_comes(self):
+        self.fed(limits=ServerLimits(time=0.4))
+        begun = time.monotonic()
+        self.assertEqual(self.ask("/v1/stat?after=1").json["version"], 1)
+        self.assertGreater(time.monotonic() - begun, 0.35)
+
+    def events(self, **headers):
+        link = http.client.HTTPConnection("127.0.0.1", self.server.address.port, timeout=60)
+        self.addCleanup(link.close)
+        link.request("GET", "/v1/events", headers={name.replace("_", "-"): it for name, it in headers.items()})
+        found = link.getresponse()
+        self.assertEqual((found.status, found.headers["content-type"]), (200, "text/event-stream"))
+        return found
+
+    def event(self, stream):
+        """The next event's fields, past what says that the stream goes on."""
+        fields = {}
+        while not fields.get("data"):
+            name, _, text = stream.readline().decode().rstrip("\n").partition(": ")
+            fields[name] = text
+        return fields
+
+    def test_events(self):
+        self.fed()
+        stream = self.events()
+        first = self.event(stream)
+        run = self.ask("/v1/stat").json["server"]
+        self.assertEqual((first["id"], first["event"]), (f"{run}:1", "version"))
+        told = json.loads(first["data"])
+        self.assertEqual([told[it] for it in ("version", "vertices", "edges", "rows")], [1, 5, 4, 4])
+        self.later()
+        second = self.event(stream)
+        self.assertEqual((second["id"], json.loads(second["data"])["edges"]), (f"{run}:2", 5))
+
+    def test_events_from_the_last_one_on(self):
+        """Who knows the last version waits for the next; who knows another, or another server's, is told at once."""
+        self.fed()
+        run = self.ask("/v1/stat").json["server"]
+        for known in (f"{run}:0", "other:1", run, f"{run}:x", ":", f"{run}:-1", f"{run}:{'1' * 99}"):
+            self.assertEqual(self.event(self.events(Last_Event_ID=known))["id"], f"{run}:1", known)
+        stream = self.events(Last_Event_ID=f"{run}:1")
+        self.later(0.2)
+        self.assertEqual(self.event(stream)["id"], f"{run}:2")
+
+    def test_silence_and_the_end(self):
+        """A comment says that a silent stream goes on; the server's end ends it, and nothing is left of readers that went."""
+        self.fed()
+        before = news.SILENCE
+        news.SILENCE = 0.2
+        self.addCleanup(setattr, news, "SILENCE", before)
+        stream, gone = self.events(), self.events()
+        self.event(stream)
+        self.assertEqual([stream.readline() for _ in range(5)], [b"\n", *[b": \n", b"\n"] * 2])
+        gone.close()
+        begun = time.monotonic()
+        self.server.stop()
+        self.assertLess(time.monotonic() - begun, 4)
+        stream.read()
+        self.assertEqual(self.server._api.bell._waiting, set())
+
+    def test_tokens_that_change(self):
+        """Who isn't known any more hears nothing more."""
+        path = self.file("people", "rita read token-of-rita\n")
+        os.chmod(path, 0o600)
+        self.serve(people=People(path))
+        before = news.SILENCE
+        news.SILENCE = 0.2
+        self.addCleanup(setattr, news, "SILENCE", before)
+        stream = self.events(Authorization="Bearer token-of-rita")
+        self.event(stream)
+        self.file("people", "riva read token-of-riva\n")
+        self.server.read_people()
+        stream.read()
+        self.assertTrue(stream.isclosed())
+
+
+class Described(unittest.TestCase):
+    def test_the_check_can_fail(self):
+        """Each answer of the server's tests is held beside its description by this."""
+        for value, schema in (("x", schemas.WHOLE), (-1, schemas.WHOLE), (True, schemas.WHOLE), (1.5, schemas.WHOLE),
+                              (None, schemas.TEXT), ({}, schemas.STATUS), ({"status": 1}, schemas.STATUS),
+                              ({"status": "x", "y": 1}, schemas.STATUS),
+                              ([1, "x"], schemas.rows_of(schemas.WHOLE)), ([], schemas.STATUS), (True, schemas.MARK),
+                              ("z", {"type": "string", "enum": ["x", "y"]}),
+                              (1, {"type": "integer", "unknown": 5})):
+            self.assertTrue(list(faults(value, schema)), (value, schema))
+        for value, schema in ((0, schemas.WHOLE), (None, schemas.or_null(schemas.TEXT)), (1.5, schemas.MARK),
+                              ("1.50", schemas.MARK), ({"status": "x"}, schemas.STATUS),
+                              ([1, 2], schemas.rows_of(schemas.WHOLE))):
+            self.assertEqual(list(faults(value, schema)), [], (value, schema))
+        stat = json.dumps({"version": 1}).encode()
+        self.assertTrue(wrong("GET", "/v1/stat?after=1", 200, "application/json", stat))
+        self.assertTrue(wrong("GET", "/v1/stat", 299, "application/json", stat))
+        self.assertTrue(wrong("GET", "/v1/edges", 200, "text/html", b""))
+
+
+if __name__ == "__main__":
+    unittest.main()
