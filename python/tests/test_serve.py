@@ -12,6 +12,7 @@ from support import as_soon_as
 
 import misteluk
 from misteluk import Busy, Edge, Served, connect, connect_async
+from misteluk.serve.page import FILES
 from misteluk.serve.feeding import checked_operations
 from misteluk.serve.server import Address
 
@@ -78,7 +79,7 @@ class Answers(ServeCase):
         told = self.ask("/openapi.json").json
         app = self.server._api.app()
         there = {(it.path.replace(":int", ""), method.lower()) for it in app.routes for method in it.methods
-                 if method != "HEAD" and it.path not in ("/", "/live.css", "/live.js")}
+                 if method != "HEAD" and it.path not in FILES}
         self.assertEqual({(path, method) for path, it in told["paths"].items() for method in it}, there)
         for path, it in told["paths"].items():
             for parameter in it.get("get", {}).get("parameters", ()):

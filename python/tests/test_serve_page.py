@@ -169,7 +169,8 @@ class Page(ServeCase):
             browser.see("document.getElementById('view').hidden = true")
             self.look(browser, name)
             browser.wait_for("document.getElementById('view').style.height !== ''")
-        self.assertEqual((browser.see("document.title"), browser.see("document.querySelectorAll('img').length")), ("Misteluk", 0))
+        self.assertEqual(browser.see("document.querySelectorAll('img').length"), 0)
+        self.assertEqual(browser.see("document.title"), f"{ODD[-1]} · Misteluk")
         self.assertEqual(browser.logged, [])
 
     def test_another_server(self):

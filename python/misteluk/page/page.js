@@ -48,13 +48,21 @@
         told.textContent = matches === null ? "" : `${matches.size} of ${vertexRows.length}`;
     };
     const point = (it) => { pointed = it; show(); };
-    const pin = (vertex) => { pinned = vertex === null || pinned?.vertex === vertex ? null : { vertex }; show(); };
+    // A page that shows this one in a frame is told which vertex is kept, and which is to be opened.
+    const nameOf = (vertex) => vertexRows.find((row) => row.dataset.vertex === vertex)?.dataset.name ?? "";
+    const say = (what, vertex) => { if (parent !== window) parent.postMessage({ [what]: nameOf(vertex) }, "*"); };
+    const pin = (vertex) => {
+        pinned = vertex === null || pinned?.vertex === vertex ? null : { vertex };
+        say("chosen", pinned?.vertex);
+        show();
+    };
 
     for (const it of [...vertices, ...vertexRows]) {
         const vertex = it.dataset.vertex;
         it.addEventListener("mouseenter", () => point({ vertex }));
         it.addEventListener("mouseleave", () => point(null));
         it.addEventListener("click", (event) => { event.stopPropagation(); pin(vertex); });
+        it.addEventListener("dblclick", () => say("opened", vertex));
         it.addEventListener("keydown", (event) => {
             if (event.key !== "Enter" && event.key !== " ") return;
             event.preventDefault();

@@ -25,7 +25,7 @@ from .flow import CALL, PERSON, Pool, Streamed, as_json, first_of, within
 from .limits import BODIES, LITTLE, ServerLimits, TooLarge
 from .openapi import AFTER, CALLS, described
 from .news import LONGEST, Bell, Events, known_of
-from .page import POLICY, VIEWED
+from .page import FILES, POLICY, VIEWED
 from .people import People, Person
 from .questions import AT_ONCE, HELD, QUESTIONS, QUICK, WHOLE, Parameter, ServedQuestion
 from .several import Several
@@ -71,8 +71,7 @@ class Api:
         return Shortcut(self.app(), self._call(self.ask, ASK), self.answers, self.limits)
 
     def app(self) -> Starlette:
-        files = [Route(f"/{name}", _file(name or "live.html", media), methods=["GET"]) for name, media in
-                 (("", "text/html; charset=utf-8"), ("live.css", "text/css"), ("live.js", "text/javascript"))]
+        files = [Route(path, _file(name, media), methods=["GET"]) for path, (name, media) in FILES.items()]
         asked = [Route(f"/v1/{it.name}", self._call(self._asking(it), it.name), methods=["GET"]) for it in QUESTIONS]
         # (routes are looked through in order: those that are asked most come first)
         held = [("POST", "/v1/sessions/{session}/ask", self.ask), ("POST", "/v1/sessions", self.hold),

@@ -14,11 +14,12 @@ from .door import Door
 from .flow import CALL, PERSON, WORD, Message, Receive, Send, as_json
 from .limits import LOOPBACK, RUN
 from .metrics import Counts
+from .page import FILES
 from .people import EVERYONE, NOBODY, People, Person
 
 App = Callable[[Any, Receive, Send], Awaitable[None]]
 # What has no data, so that a browser can ask for the token by it, and who watches the server needs none.
-OPEN = ("/", "/live.js", "/live.css", "/openapi.json", "/healthz", "/readyz")
+OPEN = (*FILES, "/openapi.json", "/healthz", "/readyz")
 # Which statuses say that a request was refused that may be right another time, or from another one.
 REFUSED, OF_HEALTH = (401, 403, 409, 413, 503), ("healthz", "readyz")
 HEADERS = [(b"x-content-type-options", b"nosniff"), (b"cache-control", b"no-store"), (b"referrer-policy", b"no-referrer"),

@@ -6,6 +6,10 @@ import hashlib
 
 from ..page.page import script
 
+# The page and its parts, by their paths, with the media type of each.
+FILES = {"/": ("live.html", "text/html; charset=utf-8"), "/live.css": ("live.css", "text/css"),
+         **{f"/{name}": (name, "text/javascript") for name in ("live.js", "asking.js", "looking.js")}}
+
 
 def _sum(text: str) -> str:
     return base64.b64encode(hashlib.sha256(text.encode("utf-8")).digest()).decode("ascii")

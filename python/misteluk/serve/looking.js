@@ -1,0 +1,140 @@
+// What one looks at: a neighborhood, a table or a path. Each has an address, which a colleague can open.
+import { acting, ask, element, number, the } from "./asking.js";
+
+// The tables that there are: the question that has each, its column, and how that column is called.
+const tables = {
+    out: ["degrees?by=out&", "out", "edges out"], into: ["degrees?by=into&", "into", "edges in"],
+    weight: ["degrees?by=weight&", "weight_out", "weight out"], weights_in: ["weights_in?", "weight_in", "weight in"],
+};
+const filters = ["kind", "since", "until"], fields = { vertex: ["hops", "beside"], from: ["to"], top: [] };
+const parts = { vertex: "view", from: "walk", top: "top" };
+let wait = null, looks = 0, last = 0;
+
+// What the address says, and the same in the fields that say it.
+const asked = () => new URLSearchParams(location.hash.slice(1));
+const kind = (given) => Object.keys(fields).find((it) => given.has(it));
+const go = (given) => {
+    clearTimeout(wait);  // (a search would take the fault of this away)
+    const text = `#${given}`;
+    if (location.hash === text) open();
+    else location.hash = text;
+};
+const given = (what) => {
+    const names = [what, ...fields[what], ...filters];
+    const pairs = names.map((it) => [it, the(it).value.trim()]).filter(([it, text]) => text !== "" || it === what);
+    return new URLSearchParams(pairs.filter(([it, text]) => it !== "beside" || Number(text) !== last));
+};
+const fill = (it) => {
+    for (const [name, text] of it) {
+        const field = the(name);
+        if (!(field instanceof HTMLInputElement || field instanceof HTMLSelectElement)) continue;
+        if (name === "beside" && ![...field.options].some((one) => one.value === text)) {
+            field.append(element("option", `version ${text}`, { value: text }));
+        }
+        field.value = text;
+    }
+    for (const name of filters) if (!it.has(name)) the(name).value = "";
+    the("filters").open ||= filters.some((name) => it.has(name));
+};
+const scope = (it) => new URLSearchParams(filters.filter((name) => it.has(name)).map((name) => [name, it.get(name)]));
+
+// Those who look at another thing meanwhile see that one.
+const shown = async (what, title, made) => {
+    const mine = ++looks;
+    for (const it of Object.values(parts)) the(`${it}-part`).hidden = true;
+    the("expand").hidden = true;
+    the("view").hidden = true;
+    the("working").hidden = false;
+    const show = await made().finally(() => { if (mine === looks) the("working").hidden = true; });
+    if (mine !== looks) return;
+    document.title = `${title} · Misteluk`;
+    the(`${parts[what]}-part`).hidden = false;
+    show();
+    the("names").replaceChildren();
+};
+const link = (name) => element("a", name, { href: `#${new URLSearchParams({ vertex: name, hops: the("hops").value })}` });
+
+const neighborhood = (it) => shown("vertex", it.get("vertex"), async () => {
+    const known = ["vertex", ...fields.vertex, ...filters].filter((name) => it.has(name));
+    const page = await (await ask(`v1/view?${new URLSearchParams(known.map((name) => [name, it.get(name)]))}`)).text();
+    return () => {
+        // (a frame of its own for each page: one that gets its page while it is hidden stays without a height in some browsers)
+        const view = the("view").cloneNode();
+        [view.hidden, view.style.height, view.srcdoc] = [false, "", page];
+        the("view").replaceWith(view);
+    };
+});
+const walk = (it) => shown("from", `${it.get("from")} to ${it.get("to")}`, async () => {
+    const more = new URLSearchParams([["source", it.get("from")], ["target", it.get("to")], ...scope(it)]);
+    const told = await (await ask(`v1/path?${more}`)).json();
+    return () => {
+        const steps = (told.path ?? []).map((name) => { const item = element("li", ""); item.append(link(name)); return item; });
+        the("walk").replaceChildren(...steps);
+        the("walk-told").textContent = told.path === null ? `No path leads there in version ${number(told.version)}.`
+            : `${number(told.path.length - 1)} steps in version ${number(told.version)}`;
+    };
+});
+const top = (it) => shown("top", `Top by ${(tables[it.get("top")] ?? tables.out)[2]}`, async () => {
+    const [question, column, words] = tables[it.get("top")] ?? tables.out;
+    const told = await (await ask(`v1/${question}top=20&${scope(it)}`)).json();
+    const rows = told.columns.name.map((name, at) => {
+        const row = element("tr", ""), cell = element("td", ""), value = told.columns[column][at];
+        cell.append(link(name));
+        row.append(cell, element("td", typeof value === "number" ? number(value) : value));
+        return row;
+    });
+    return () => {
+        the("top-told").textContent = `The ${number(rows.length)} with the most ${words}, version ${number(told.version)}`;
+        the("top-head").textContent = words;
+        the("top-rows").replaceChildren(...rows);
+    };
+});
+const open = acting(async () => {
+    const it = asked(), what = kind(it);
+    fill(it);
+    if (what !== undefined) await { vertex: neighborhood, from: walk, top }[what](it);
+});
+
+// All rows of the table that is seen, as a file.
+const save = acting(async () => {
+    const it = asked(), [question, , words] = tables[it.get("top")] ?? tables.out;
+    const answer = await ask(`v1/${question}${scope(it)}`, "GET", { Accept: "text/csv" });
+    const file = `${words.replace(" ", "-")}-version-${answer.headers.get("misteluk-version")}.csv`;
+    const saved = element("a", "", { href: URL.createObjectURL(await answer.blob()), download: file });
+    saved.click();
+    setTimeout(() => URL.revokeObjectURL(saved.href), 10000);
+});
+
+const find = acting(async () => {
+    const text = the("vertex").value.trim();
+    const names = text === "" ? [] : (await (await ask(`v1/names?top=12&like=${encodeURIComponent(text)}`)).json()).columns.name;
+    the("names").replaceChildren(...names.map((name) => {
+        const item = element("li", ""), button = element("button", name, { type: "button" });
+        button.addEventListener("click", () => { the("vertex").value = name; the("look").requestSubmit(); });
+        item.append(button);
+        return item;
+    }));
+});
+
+export const begin = () => {
+    const submits = (form, what) => the(form).addEventListener("submit", (event) => { event.preventDefault(); go(given(what)); });
+    submits("look", "vertex");
+    submits("walk-form", "from");
+    submits("top-form", "top");
+    the("csv").addEventListener("click", save);
+    the("vertex").addEventListener("input", () => { clearTimeout(wait); wait = setTimeout(find, 150); });
+    the("expand").addEventListener("click", () => { the("vertex").value = the("expand").value; the("look").requestSubmit(); });
+    // (the frame, which can do nothing else here, tells how high it is, and which vertex was chosen in it)
+    addEventListener("message", (event) => {
+        if (event.source !== the("view").contentWindow) return;
+        const { height, chosen, opened } = event.data ?? {};
+        if (Number(height) > 0 && height < 100000) the("view").style.height = `${Math.ceil(height) + 4}px`;
+        if (typeof opened === "string") [the("expand").value, the("expand").hidden] = [opened, true];
+        if (typeof opened === "string") the("expand").click();
+        if (typeof chosen === "string") {
+            [the("expand").value, the("expand").textContent, the("expand").hidden] = [chosen, `Expand ${chosen}`, chosen === ""];
+        }
+    });
+    addEventListener("hashchange", open);
+};
+export const know = (version) => { last = version; };
