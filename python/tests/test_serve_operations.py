@@ -79,6 +79,16 @@ class Ready(ServeCase):
             self.assertEqual(self.ready(), (200, None))
 
 
+class Left(Case):
+    def test_what_killed_saves_left(self):
+        """Parts of this file that aren't whole go; what has another name stays."""
+        mine = [self.file(f"graph.gz.{it}.part", "x") for it in ("0123abcd", "ffffffff")]
+        others = [self.file(it, "x") for it in ("graph.gz.part", "graph.gz.0123ABCD.part", "graphxgz.0123abcd.part",
+                                                "graph.gz.0123abcd.parts", "other.0123abcd.part", "graph.gz.0123abcd")]
+        Keeper(str(self.room / "graph.gz"), 60).close()
+        self.assertEqual([os.path.exists(it) for it in mine + others], [False] * 2 + [True] * 6)
+
+
 def samples(text):
     """The samples of a text by names and labels, as Prometheus's own client reads them."""
     from prometheus_client.parser import text_string_to_metric_families

@@ -1,8 +1,10 @@
 """A server's store in a file: what a server that is killed begins with again."""
 from __future__ import annotations
 
+import contextlib
 import fcntl
 import os
+import re
 import threading
 import time
 from datetime import datetime, timezone
@@ -35,6 +37,7 @@ class Keeper:
         self._saved: Optional[int] = None
         self._when, self._over = time.monotonic(), threading.Event()
         self._saving, self._lock = threading.Lock(), _locked(place_of(path))
+        _drop_parts(place_of(path))
 
     def restored(self, **options: Any) -> "Optional[Store[Any, Any]]":
         """The store that the file has, as version 0, and `None` where there is no file. Raises `SaveFault` for one that is
@@ -105,6 +108,15 @@ class Keeper:
     def close(self) -> None:
         self.stop()
         self._lock.close()
+
+
+def _drop_parts(place: str) -> None:
+    """Removes what saves left that were killed before their file was whole. (No other server saves there.)"""
+    folder, name = os.path.split(place)
+    for it in os.listdir(folder or "."):
+        if re.fullmatch(rf"{re.escape(name)}\.[0-9a-f]{{8}}\.part", it):
+            with contextlib.suppress(OSError):
+                os.unlink(os.path.join(folder, it))
 
 
 def _locked(place: str) -> "IO[str]":
