@@ -4,15 +4,19 @@ import logging
 import os
 import re
 import signal
+import threading
 import unittest
 from contextlib import contextmanager
+from unittest import mock
 
 from serving import FEED, HAS_PACKAGES, NO_PACKAGES, ServeCase
 from support import Case, as_soon_as
 
 from misteluk import NotAllowed, Served, StoreError, connect
 from misteluk.serve import log
+from misteluk.serve.limits import ServerLimits
 from misteluk.serve.people import EVERYONE, ROLES, People, Person
+from misteluk.session import Session
 
 TOKENS = {"read": "token-of-rita", "feed": "token-of-fred", "admin": "token-of-alma", None: "token-of-nobody"}
 LINES = "# the team\nrita read token-of-rita\n\nfred  feed\ttoken-of-fred\nalma admin token-of-alma\nriva read token-of-riva\n"
@@ -181,6 +185,36 @@ class Roles(ServeCase):
         self.assertEqual(self.post(f"/v1/feeder/{seat}/batches/1", batch, **self.as_one("feed")).status, 200)
         self.assertEqual(self.ask("/v1/stat", **self.as_one("read")).json["feed"]["by"], "fred")
         self.assertEqual(self.ask(f"/v1/feeder/{seat}", "DELETE", **self.as_one("admin")).status, 204)
+
+    def test_a_limit_for_each(self):
+        """One person's questions under way have no other's places; what was answered counts no more."""
+        path = self.file("people", LINES)
+        os.chmod(path, 0o600)
+        self.serve(people=People(path), limits=ServerLimits(each=2, questions=1))
+        begun, going = threading.Semaphore(0), threading.Event()
+        self.addCleanup(going.set)
+
+        def slow(session, source, target, **given):
+            begun.release()
+            going.wait(60)
+            return []
+        found = []
+        with mock.patch.object(Session, "path", slow):
+            threads = [threading.Thread(target=lambda who=who: found.append(self.ask("/v1/path?source=a&target=b",
+                                                                                     **self.as_one(who)).status))
+                       for who in ("read", "read", "token-of-riva")]
+            for it in threads:
+                it.start()
+            self.addCleanup(lambda: [it.join() for it in threads])
+            begun.acquire()
+            shares = self.server._api.shares._under_way
+            as_soon_as(lambda: dict(shares) == {"rita": 2, "riva": 1})
+            told = self.ask("/v1/levels?source=a", **self.as_one("read"))
+            self.assertEqual((told.status, told.json["error"], told.json["retry_after"]), (503, "TooMany", 1))
+            going.set()
+            for it in threads:
+                it.join()
+        self.assertEqual((sorted(found), dict(shares)), ([200] * 3, {}))
 
     def test_clients_in_python(self):
         self.begin()

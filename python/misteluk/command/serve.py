@@ -59,13 +59,16 @@ def add_options(parser: argparse.ArgumentParser) -> None:
                         f"({usual.body:,})")
     listen.add_argument("--longest", type=float, default=usual.time, metavar="SECONDS", help="how long an answer may take "
                         f"({usual.time:g})")
+    listen.add_argument("--each", type=int, default=usual.each, metavar="N", help="how many questions one person may have under "
+                        f"way, where there are several tokens ({usual.each})")
     listen.add_argument("--questions", type=int, default=usual.questions, metavar="N", help="how many questions over the whole "
                         f"graph are answered at once ({usual.questions})")
 
 
 def serve(words: argparse.Namespace, how: Dict[str, Any]) -> int:
     """Serves a store until a signal ends it."""
-    limits = ServerLimits(words.idle, words.clients, words.body, words.longest, words.questions, words.versions)
+    limits = ServerLimits(words.idle, words.clients, words.body, words.longest, words.questions, words.versions,
+                          words.each)
     if words.file is not None and words.by is None:
         raise ValueError("a feed wants --set or --add")
     if words.save is not None and words.file not in (None, STANDARD_INPUT):

@@ -21,7 +21,7 @@ from .feeding import Feeding
 from .gate import Run
 from .health import Health
 from .keeping import Keeper
-from .flow import CALL, PERSON, Pool, Streamed, as_json, first_of, within
+from .flow import CALL, PERSON, Pool, Shares, Streamed, as_json, first_of, within
 from .limits import BODIES, LITTLE, ServerLimits, TooLarge
 from .openapi import AFTER, CALLS, described
 from .news import LONGEST, Bell, Events, known_of
@@ -63,6 +63,7 @@ class Api:
         self.feed = Pool(1, limits, "rows")
         self.bodies = Pool(1, limits, "bodies")
         self._pools = self.quick, self.held, self.slow, self.feed, self.bodies
+        self.shares = Shares(limits.each)
         self.answers = Answers(board, self.store.ledger.terms.names)
         # How many bytes of bodies are here.
         self._taken = 0
@@ -125,7 +126,7 @@ class Api:
             is_csv = question.columns != () and wants_csv(request.headers.get("accept", ""))
             given = {**given, **({AS_CSV: True} if is_csv else {})}
             return await self._answered(lambda headers: self._parts(question, given, person, headers),
-                                        CSV if is_csv else question.media, question.way)
+                                        CSV if is_csv else question.media, question.way, person)
         return handle
 
     def _parts(self, question: ServedQuestion, given: Dict[str, Any], person: Person, headers: Dict[str, str]) -> Iterator[bytes]:
@@ -141,16 +142,17 @@ class Api:
     async def several(self, request: Request) -> Any:
         """Several questions of one version."""
         asked, person = Several.of(await self._object(request)), _person(request)
-        return await self._answered(lambda _: asked.parts(self.board, person), wire.JSON, WHOLE)
+        return await self._answered(lambda _: asked.parts(self.board, person), wire.JSON, WHOLE, person)
 
-    async def _answered(self, parts: Callable[[Dict[str, str]], Iterator[bytes]], media: str, way: int) -> Any:
+    async def _answered(self, parts: Callable[[Dict[str, str]], Iterator[bytes]], media: str, way: int, person: Person) -> Any:
         """An answer, whose parts add headers of their own as they begin."""
         headers = {"content-type": media, **({"content-security-policy": VIEWED} if media.startswith("text/html") else {})}
         if way == AT_ONCE and not self.board.is_busy:
             found = b"".join(parts(headers))
             return Response(found, headers=headers)
         pool = self.slow if way == WHOLE else self.quick
-        flow, first, is_more = await pool.run(lambda: first_of(lambda: parts(headers)), lambda it: it[0].close())
+        with self.shares.one(person):
+            flow, first, is_more = await pool.run(lambda: first_of(lambda: parts(headers)), lambda it: it[0].close())
         if not is_more:
             return Response(first, headers=headers)
         return Streamed(flow, first, headers, self.slow, self.limits)
@@ -231,7 +233,7 @@ class Api:
         asked = await self._object(request)
         name, call = request.path_params["session"], str(asked.get("call"))
         return await self._answered(lambda _: self.answers.parts(name, asked, _person(request)), wire.COLUMNS,
-                                    QUICK if call in OF_FEW else WHOLE)
+                                    QUICK if call in OF_FEW else WHOLE, _person(request))
 
     # The feed.
 

@@ -4,7 +4,9 @@ from __future__ import annotations
 import asyncio
 import json
 import threading
+from collections import Counter
 from concurrent.futures import Future, ThreadPoolExecutor
+from contextlib import contextmanager
 from types import TracebackType
 from typing import Any, Awaitable, Callable, Dict, Iterator, List, MutableMapping, Optional, Set, Tuple, Type, TypeVar
 
@@ -13,6 +15,7 @@ from starlette.responses import Response
 from . import wire
 from .board import Full
 from .limits import BYTES_AT_ONCE, ServerLimits
+from .people import EVERYONE, Person
 
 R = TypeVar("R")
 Message = MutableMapping[str, Any]
@@ -86,6 +89,31 @@ class Pool:
     def close(self) -> None:
         """Ends it: what waits isn't answered any more, and nobody waits for what a thread is at."""
         self._pool.shutdown(wait=False, cancel_futures=True)
+
+
+class Shares:
+    """How many questions each person has under way, so that none has all places where questions wait. (The event loop alone
+    counts.) Those who have one token together are no person."""
+
+    def __init__(self, most: int) -> None:
+        self._most = most
+        self._under_way: "Counter[str]" = Counter()
+
+    @contextmanager
+    def one(self, person: Person) -> Iterator[None]:
+        """A question of a person. Raises `Full` where that one has too many."""
+        if person.name == EVERYONE.name:
+            yield
+            return
+        if self._under_way[person.name] >= self._most:
+            raise Full("TooMany", f"{person.name} has {self._most} questions under way", 1)
+        self._under_way[person.name] += 1
+        try:
+            yield
+        finally:
+            self._under_way[person.name] -= 1
+            if not self._under_way[person.name]:
+                del self._under_way[person.name]
 
 
 class Flow:

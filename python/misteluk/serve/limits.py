@@ -33,7 +33,8 @@ class ServerLimits(NamedTuple):
     """`idle`: after how many seconds of silence a client's version, or its seat as the feeder, is let go. `clients`: how many
     sessions there may be. `body`: how many bytes a request's body may have. `time`: how many seconds a question may take.
     `questions`: how many questions that go over the whole graph are answered at once, and a hundred times as many may wait.
-    `versions`: how many versions clients may hold, besides the newest."""
+    `versions`: how many versions clients may hold, besides the newest. `each`: how many questions one person may have under way,
+    where the server knows people by their tokens."""
 
     idle: float = 60.0
     clients: int = 1_000
@@ -41,6 +42,7 @@ class ServerLimits(NamedTuple):
     time: float = 60.0
     questions: int = 4
     versions: int = 64
+    each: int = 100
 
     def checked(self) -> "ServerLimits":
         """Itself; raises `ValueError` where one of them is out of range."""
@@ -48,6 +50,7 @@ class ServerLimits(NamedTuple):
         within("body", self.body, 1_024, 1 << 30)
         within("questions", self.questions, 1, 64)
         within("versions", self.versions, 1, 100_000)
+        within("each", self.each, 1, 100_000)
         for name in ("idle", "time"):
             if not 0 < getattr(self, name) <= 1e6:
                 raise ValueError(f"{name} is a number of seconds above 0, and not {getattr(self, name)}")
