@@ -22,7 +22,8 @@ TOKENS = {"read": "token-of-rita", "feed": "token-of-fred", "admin": "token-of-a
 LINES = "# the team\nrita read token-of-rita\n\nfred  feed\ttoken-of-fred\nalma admin token-of-alma\nriva read token-of-riva\n"
 # Each call, and the least role that it is for: written here by hand, beside what the server says of itself.
 CALLS = {
-    "none": ["GET /", "GET /live.js", "GET /looking.js", "GET /asking.js", "GET /live.css", "GET /openapi.json", "GET /healthz", "GET /readyz"],
+    "none": ["GET /", "GET /live.js", "GET /looking.js", "GET /asking.js", "GET /live.css", "GET /openapi.json",
+             "GET /healthz", "GET /readyz"],
     "read": ["GET /v1/edge", "GET /v1/out_of", "GET /v1/into", "GET /v1/edges", "GET /v1/levels", "GET /v1/within",
              "GET /v1/path", "GET /v1/degrees", "GET /v1/weights_in", "GET /v1/components", "GET /v1/cores", "GET /v1/names",
              "GET /v1/view", "GET /v1/stat", "GET /metrics", "GET /v1/events",

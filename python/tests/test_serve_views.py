@@ -1,4 +1,4 @@
-"""The views of the server's page in Chromium: their addresses, tables, a path, filters, a hold over a reload, and how it is read."""
+"""The views of the server's page in Chromium: addresses, tables, a path, filters, a hold over a reload, and how they are read."""
 import json
 import unittest
 
@@ -112,8 +112,9 @@ class Views(ServeCase):
         browser.wait_for("document.getElementById('view').style.height !== ''")
         browser.see(say.format("{ opened: 'funnel' }"))
         self.assertIn("Around funnel", self.page(browser, "funnel"))
-        browser.see(say.format("{ opened: 5, chosen: null, height: 'x' }").replace("document.getElementById('view').contentWindow",
-                                                                                  "window"))
+        other = say.replace("document.getElementById('view').contentWindow", "window")
+        browser.see(other.format("{ opened: 'ben' }"))
+        browser.see(say.format("{ opened: 5, chosen: null, height: 'x' }"))
         self.assertEqual(browser.see("location.hash"), "#vertex=funnel&hops=1")
 
     def test_the_frame_says_what_was_chosen(self):
@@ -184,14 +185,16 @@ class Views(ServeCase):
         self.fed()
         browser = self.open("#top=out")
         self.seen(browser, "top-part")
-        browser.see("window.asked = fetch; document.getElementById('filters').open = true; window.fetch = () => Promise.reject(new TypeError('gone')); 0")
+        browser.see("document.getElementById('filters').open = true; window.asked = fetch; "
+                    "window.fetch = () => Promise.reject(new TypeError('gone')); 0")
         browser.wait_for("document.querySelector('.tiles .age').textContent !== ''")
         for scheme in ("light", "dark"):
             browser._call("Emulation.setEmulatedMedia", features=[{"name": "prefers-color-scheme", "value": scheme}])
             self.assertEqual(browser.see(CONTRAST), [], scheme)
-        unnamed = browser.see("[...document.querySelectorAll('input, select')].filter((it) => !it.labels.length).map((it) => it.id)")
-        tabs = browser.see("[...document.querySelectorAll('input, select, button, summary, a')].filter((it) => it.tabIndex < 0).length")
-        self.assertEqual((unnamed, tabs), ([], 0))
+        unnamed = browser.see("[...document.querySelectorAll('input, select')].filter((it) => !it.labels.length).length")
+        tabs = browser.see("[...document.querySelectorAll('input, select, button, summary, a')].filter((it) => it.tabIndex < 0)"
+                           ".length")
+        self.assertEqual((unnamed, tabs), (0, 0))
         browser.size(375, 700, True)
         self.assertLessEqual(browser.see("document.documentElement.scrollWidth"), 375)
         browser.see("window.fetch = window.asked; 0")

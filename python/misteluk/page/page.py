@@ -166,7 +166,8 @@ class Page:
         for at, name in enumerate(self.it.names[:MOST_VERTICES]):
             degrees = [side.degrees.get(name) for side in self.it.sides]
             counts = [_both([None if it is None else it[field] for it in degrees]) for field in range(len(Degree._fields))]
-            rows.append(f'<tr data-vertex="{at}" data-name="{escape(name)}" tabindex="-1">{_name(name)}{_number(self.it.hop[name])}{"".join(counts)}</tr>\n')
+            cells = f'{_name(name)}{_number(self.it.hop[name])}{"".join(counts)}'
+            rows.append(f'<tr data-vertex="{at}" data-name="{escape(name)}" tabindex="-1">{cells}</tr>\n')
         return _table("vertices", "Vertices", f"degrees in the whole version; {self.it.window}", columns, rows)
 
     def _edges(self) -> str:
