@@ -151,7 +151,7 @@ class Ends(ServeCase):
         for number in (signal.SIGINT, signal.SIGTERM):
             base = type("Base", (), {"__init__": lambda it, config: None, "should_exit": False, "force_exit": False,
                                      "handle_exit": lambda it, number, frame: setattr(it, "should_exit", True)})
-            server = ending.made(base, None, None, None)
+            server = ending.made(base, None, None)
             server.handle_exit(number, None)
             self.assertEqual((server.should_exit, server.force_exit), (True, False))
             server.handle_exit(number, None)

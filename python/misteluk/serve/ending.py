@@ -45,8 +45,8 @@ class Ending(_Server):  # type: ignore[misc]
         super().handle_exit(number, frame)
 
 
-def made(base: Any, config: Any, begun: Callable[[], None], before: Callable[[], None]) -> Any:
-    """The server that does the rest as this one, and calls what is given when it answers, and before it ends."""
+def made(base: Any, config: Any, before: Callable[[], None], begun: Callable[[], None] = lambda: None) -> Any:
+    """The server that does the rest as this one, and calls what is given before it ends, and when it begins to answer."""
     found: Any = type("Server", (Ending, base), {})(config)
     found.begun, found.before = begun, before
     return found

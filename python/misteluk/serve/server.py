@@ -151,7 +151,7 @@ class Server:
         config = uvicorn.Config(gate, http=protocol(Responder(gate, api.answers, self.limits), self.door), log_level="critical",
                                 access_log=False, lifespan="off", server_header=False, proxy_headers=False, backlog=AT_ONCE,
                                 timeout_keep_alive=int(self.limits.idle) + 5)
-        return made(uvicorn.Server, config, self._begin, self._end), api
+        return made(uvicorn.Server, config, self._end, self._begin), api
 
     @property
     def url(self) -> str:
