@@ -201,6 +201,9 @@ class Views(ServeCase):
         self.fill(browser, "walk-form", **{"from": "boss", "to": "offshore"})
         self.seen(browser, "walk-part")
         self.assertLessEqual(browser.see("document.documentElement.scrollWidth"), 375)
+        self.fill(browser, "look", vertex="funnel", hops="1")
+        self.page(browser, "funnel")
+        browser.wait_for("document.getElementById('view').style.height !== ''")
 
     def test_a_token_and_an_address(self):
         """What the address says is shown when the token was entered."""

@@ -48,8 +48,11 @@ const shown = async (what, title, made) => {
     const show = await made().finally(() => { if (mine === looks) the("working").hidden = true; });
     if (mine !== looks) return;
     document.title = `${title} · Misteluk`;
-    the(`${parts[what]}-part`).hidden = false;
+    const part = the(`${parts[what]}-part`);
+    part.hidden = false;
     show();
+    // (a browser draws no frame that is out of sight, as below the fields on a phone; and that one tells no height then)
+    if (part.getBoundingClientRect().top > 0.7 * innerHeight) part.scrollIntoView();
     the("names").replaceChildren();
 };
 const link = (name) => element("a", name, { href: `#${new URLSearchParams({ vertex: name, hops: the("hops").value })}` });
