@@ -124,8 +124,9 @@ class Requests(ServeCase):
 
     def test_words_of_stat(self):
         self.fed()
-        for path in ("/v1/stat?after=5", "/v1/stat?zed"):
-            self.assertEqual(self.ask(path).json, {"error": "BadRequest", "reason": "stat is asked with nothing"}, path)
+        reason = "stat is asked with nothing, or with after"
+        for path in ("/v1/stat?before=5", "/v1/stat?zed=1", "/v1/stat?after=1&after=1"):
+            self.assertEqual(self.ask(path).json, {"error": "BadRequest", "reason": reason}, path)
 
     def test_media(self):
         """In capitals too, and each answer's is said once."""
