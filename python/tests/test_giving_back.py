@@ -12,6 +12,7 @@ from support import Case
 
 import misteluk
 from misteluk import Edge
+from misteluk.engine.guard import Notes, Owned
 
 EDGES, MOST = 10_000, 8 << 20
 
@@ -94,6 +95,26 @@ class Floors(Case):
         self.assertEqual(store.collect().floor, 2)
         second.close()
         self.assertEqual(store.collect().floor, 3)
+
+
+class Noted(unittest.TestCase):
+    def test_notes(self):
+        """What is let go, or whose owner is gone, is given back by the next call, once; and what is forgotten never."""
+        notes, given = Notes(), []
+        owners = [Owned(raw, notes) for raw in range(5)]
+        first = notes.know(owners[0], "first")
+        notes.let_go(first)
+        notes.let_go(first)
+        notes.give_back(given.append)
+        self.assertEqual(given, ["first"])
+        del owners[3:]
+        notes.give_back(given.append)
+        self.assertEqual(sorted(given[1:]), [3, 4])
+        notes.let_go(notes.know(owners[0], "left"))
+        del owners[2]
+        notes.forget()
+        notes.give_back(given.append)
+        self.assertEqual(len(given), 3)
 
 
 if __name__ == "__main__":

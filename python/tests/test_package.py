@@ -14,12 +14,13 @@ import subprocess
 import sys
 import unittest
 import zipfile
+from unittest import mock
 
 from support import HERE, TOP, Case, find_program, optional
 
 import misteluk
 from misteluk import errors, find_library
-from misteluk.command.doctor import made
+from misteluk.command.doctor import look, made
 from misteluk.engine.interface import INTERFACE
 
 sys.path.insert(0, str(HERE.parent))
@@ -177,6 +178,19 @@ class Installs(Case):
         done = run(sys.executable, "-B", "-m", "misteluk", "doctor", *words, cwd="/",
                    env={"PATH": "", "HOME": str(self.room), "PYTHONPATH": str(self.there), **env})
         return [*done.stdout.splitlines(), done.returncode]
+
+    def test_the_doctor_tries_a_store(self):
+        """An answer that is wrong, and a store that can't be made, are told, and that something is wrong."""
+        with misteluk.Store() as store:
+            blocks = f"a store of {store.blocks} blocks and {store.seats} seats answers"
+        told, is_well = look()
+        self.assertEqual((told[-2], told[-1].partition(":")[0], is_well), (blocks, "limits", True))
+        with mock.patch.object(misteluk.Session, "edge", lambda *_: misteluk.Edge(2, 0, 0)):
+            told, is_well = look()
+        self.assertEqual((told[-2], is_well), (f"{blocks} WRONGLY", False))
+        with mock.patch.object(misteluk.Store, "open", side_effect=misteluk.NoMemory("no room")):
+            told, is_well = look()
+        self.assertEqual((told[-1], is_well), ("no store can be made: no room", False))
 
     def test_the_doctor_knows_proved_crates(self):
         unknown = "compiled, or of elsewhere: not known to be proved"
