@@ -19,7 +19,7 @@ pub enum InsertError {
 }
 
 /// The name of a number in a dictionary: the bytes of `text` from where the name before it ends to where it ends.
-pub(crate) fn name_at<'a>(text: &'a [u8], ends: &[u64], number: u32) -> Option<&'a [u8]>
+pub fn name_at<'a>(text: &'a [u8], ends: &[u64], number: u32) -> Option<&'a [u8]>
     ensures { option_copied result ≡ name_in text.now ends.now number }
 {
     let number = number as usize;

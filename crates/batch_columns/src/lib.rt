@@ -7,5 +7,5 @@ mod columns;
 mod operations;
 
 pub use bytes::{push_add, push_expire, push_insert, push_remove};
-pub use columns::{InsertError, insert_numbers};
-pub use operations::{Operations, OperationsError, with_operations};
+pub use columns::{InsertError, insert_numbers, name_at};
+pub use operations::{Operations, OperationsError, are_alike, with_operations};

@@ -114,7 +114,7 @@ fn push_at(
 }
 
 /// Whether the columns have one length.
-fn are_alike(operations: &Operations<'_>) -> bool
+pub fn are_alike(operations: &Operations<'_>) -> bool
     ensures { result ≡ specs.are_alike (table_of operations.now) }
 {
     let count = operations.sorts.len();

@@ -20,3 +20,4 @@ pub mod NumbersIn
 pub mod RowBlocks
 pub mod ListedNumbers
 pub mod RowsAmong
+pub mod BegunRows

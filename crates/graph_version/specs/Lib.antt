@@ -23,3 +23,4 @@ pub mod InEdges
 pub mod Rebased
 pub mod Listed
 pub mod Shown
+pub mod Begun

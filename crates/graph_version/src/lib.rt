@@ -20,6 +20,7 @@ mod batch_hall;
 mod batch_log;
 mod batch_page;
 mod batches;
+mod begun;
 mod drafts;
 mod edges;
 mod in_edges;

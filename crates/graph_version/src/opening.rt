@@ -4,9 +4,11 @@ ghost use Rattle.std.specs.Prelude.{◌≡◌, false, true, IfOk};
 ghost use Rattle.graph_types.specs.Graph.{IsContentIn, graph_in};
 ghost use Rattle.graph_types.specs.Step.{empty_graph_in};
 ghost use Rattle.graph_version.specs.Versions.{content as content_of};
+ghost use Rattle.graph_version.specs.Begun.{graph_by};
 ghost use Rattle.graph_version.specs.Kept.{opening_graph};
 ghost use Rattle.graph_version.specs.Logs.{keeps_batches};
 
+use crate::begun::Begun;
 use crate::listed::ListedContent;
 use crate::told_graph::ToldGraph;
 use crate::told_opening::ToldOpening;
@@ -57,6 +59,17 @@ impl Opening {
         Opening::Told(ToldOpening {
             graph: ToldGraph::of(version),
             blank: blank(alloc, limits),
+        })
+    }
+
+    /// What a version is to begin with, in the proofs alone.
+    pub(crate) fn told_of(alloc: Global, begun: &Begun) -> Opening
+        requires { keeps_batches begun.now.limits ≡ false }
+        ensures { opening_graph result ≡ graph_by begun.now.limits begun.now.names.names begun.now.kinds.names begun.now.rows }
+    {
+        Opening::Told(ToldOpening {
+            graph: ToldGraph::by(begun),
+            blank: blank(alloc, begun.limits),
         })
     }
 

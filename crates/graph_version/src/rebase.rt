@@ -104,7 +104,7 @@ impl Version {
 }
 
 /// The names of a book, in order.
-fn names_in(alloc: Global, book: &NameBook) -> Result<Vec<Name>, AllocError>
+pub(crate) fn names_in(alloc: Global, book: &NameBook) -> Result<Vec<Name>, AllocError>
     ensures names { IfOk result (λ names. names.items ≡ book.now.names) }
     ensures distinct { IfOk result (λ names. AllPairs (λ a b. a ≢ b) names.items) }
 {
@@ -160,7 +160,7 @@ fn copy_each(blocks: &mut [Arc<Block>], held: &[Arc<Block>]) -> Result<(), Alloc
 }
 
 /// The edges of rows, block by block, slots rising.
-fn edges_in(alloc: Global, rows: &Rows) -> Result<Vec<Edge>, AllocError>
+pub(crate) fn edges_in(alloc: Global, rows: &Rows) -> Result<Vec<Edge>, AllocError>
     ensures edges { IfOk result (λ edges. edges.items ≡ edges_in_blocks (blocks_of rows.now)) }
     ensures stamps { IfOk result (λ edges. All (λ e. IsStamp (stamp_of e)) edges.items) }
 {

@@ -1,8 +1,10 @@
 //! A graph that stands in the proofs alone.
 
 ghost use Rattle.std.specs.Prelude.{◌≡◌};
+ghost use Rattle.graph_version.specs.Begun.{graph_by};
 ghost use Rattle.graph_version.specs.Versions.{content};
 
+use crate::begun::Begun;
 use crate::versions::Version;
 use logbook::{Opening as Opens, Pens, Rule, Seen, Start};
 use std::marker::Model;
@@ -78,7 +80,28 @@ impl Opens<Version, AnyGraph> for ContentOf {
     ghost log = { λ count version. content version ∷ [] };
 }
 
+/// The graph that a version is to begin with.
+struct GraphOf;
+
+impl Opens<Begun, AnyGraph> for GraphOf {
+    ghost use Rattle.std.specs.Prelude.{◌∷◌, []};
+    ghost use Rattle.graph_version.specs.Begun.{graph_by};
+
+    ghost log = { λ count begun. graph_by begun.limits begun.names.names begun.kinds.names begun.rows ∷ [] };
+}
+
 impl ToldGraph {
+    /// What a version is to begin with.
+    pub(crate) fn by(begun: &Begun) -> ToldGraph
+        ensures { result ≡ graph_by begun.now.limits begun.now.names.names begun.now.kinds.names begun.now.rows }
+    {
+        let (seen, _pens): (Seen<AnyGraph, u64, AnyGraphs>, Pens) = Seen::open_row::<
+            Begun,
+            GraphOf,
+        >(begun, Start::alone(), 0);
+        ToldGraph { seen }
+    }
+
     /// What a version holds.
     pub(crate) fn of(version: &Version) -> ToldGraph
         ensures { result ≡ content version.now }
