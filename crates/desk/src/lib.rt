@@ -34,3 +34,4 @@ pub use errors::{HoldError, OpenError, ReleaseError};
 pub use graph_types::ApplyError;
 pub use owned::{Held, Hold, OwnedDesk};
 pub use ready::{Accepted, Ready};
+pub use zero::Zero;

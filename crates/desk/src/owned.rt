@@ -16,12 +16,14 @@ ghost use Rattle.store_steps.specs.Acceptances.{Accepts};
 ghost use Rattle.store_steps.specs.Steps.{SimulatesAt, recycling};
 ghost use Rattle.desk.specs.Owned.{opened_owned, HoldsOnce, RefusesHold, IsReleased, RefusesRelease, copied};
 ghost use Rattle.desk.specs.Owned.{IsSeatFor, IsSeatOf, ReleasesOnce, count_at, held_pin, with_hold};
+ghost use Rattle.desk.specs.Openings.{OpensWith};
 ghost use Rattle.desk.specs.Refusals.{Refuses, IsWithin};
 
 use crate::desks::{Collected, Desk};
 use crate::errors::{HoldError, ReleaseError};
 use crate::ready::Accepted;
 use crate::seats::seat_with;
+use crate::zero::Zero;
 use block_reclamation::{Board, Pin, SEATS, SeatNo};
 use graph_types::{ApplyError, Batch};
 use graph_version::Version;
@@ -224,6 +226,36 @@ impl OwnedDesk {
             return Err(AllocError);
         };
         self.desk.reopen()?;
+        let OwnedDesk {
+            board,
+            counts,
+            opening,
+            ..
+        } = self;
+        *board = Board::new();
+        *counts = [0; SEATS];
+        *opening = next;
+        Ok(())
+    }
+
+    /// Opens the desk anew over a version 0 that was made apart, of as many blocks as the desk's, as [`OwnedDesk::rebase`] does over
+    /// its last version: nothing is retired or held, and versions that were held answer on. What the last version holds is given up.
+    /// The error is `AllocError` if no further opening can be counted; all is as it was then. It takes no memory.
+    ///
+    /// ```
+    /// let zero = Zero::over(alloc, desk.desk().blocks(), &other_version)?;
+    /// desk.reopen_with(zero)?;
+    /// ```
+    pub fn reopen_with(&mut self, zero: Zero) -> Result<(), AllocError>
+        requires { OpensWith (length self.old.desk.pool) zero }
+        ensures opened { OnOk result (self.new
+            ≡ opened_owned (opened_desk (length self.old.desk.pool) (arc_value {X = Version} zero.version)) (self.old.opening + 1)) }
+        ensures unchanged { OnErr result (self.new ≡ self.old) }
+    {
+        let Some(next) = self.opening.checked_add(1) else {
+            return Err(AllocError);
+        };
+        self.desk.reopen_with(zero);
         let OwnedDesk {
             board,
             counts,

@@ -10,13 +10,14 @@ ghost use Rattle.block_reclamation.specs.Status.{recycled};
 ghost use Rattle.block_pool.specs.Pools.{marked};
 ghost use Rattle.store_steps.specs.Opening.{IsVersionZero, opened_desk};
 ghost use Rattle.desk.specs.Applying.{AreInUseOnce};
-ghost use Rattle.desk.specs.Openings.{without_pins};
+ghost use Rattle.desk.specs.Openings.{OpensWith, without_pins};
 
 use crate::desks::Desk;
 use crate::journals::Journal;
 use crate::last::Last;
 use crate::moves::born_blocks;
 use crate::told_numbers::ToldNumbers;
+use crate::zero::Zero;
 use block_pool::Pool;
 use block_reclamation::PinCopy;
 use graph_version::Version;
@@ -48,6 +49,24 @@ impl Desk {
         parts.journal = Journal::new(parts.alloc, version.keeps_batches());
         parts.last = Last::of(version);
         Ok(())
+    }
+
+    /// Opens the desk anew over a version 0 that was made apart, of as many blocks as the desk's. What the desk had is given up. It
+    /// takes no memory.
+    pub(crate) fn reopen_with(&mut self, zero: Zero)
+        requires { OpensWith (length self.old.pool) zero }
+        ensures { self.new ≡ opened_desk (length self.old.pool) (arc_value {X = Version} zero.version) }
+    {
+        let parts = &mut *self.parts;
+        let Zero {
+            version,
+            numbers,
+            pool,
+        } = zero;
+        parts.pool = pool;
+        parts.opened = numbers;
+        parts.journal = Journal::new(parts.alloc, version.keeps_batches());
+        parts.last = Last::of(version);
     }
 }
 

@@ -1,11 +1,12 @@
 //! Version 0 of a store, before there is a desk.
 
-ghost use Rattle.std.specs.Prelude.{◌≡◌, ◌≤◌, IfOk};
+ghost use Rattle.std.specs.Prelude.{◌≡◌, ◌≤◌, ℕ, IfOk};
 ghost use Rattle.std.specs.Arc.{arc_value};
 ghost use Rattle.graph_version.specs.declared.versions.Version.{Version};
 ghost use Rattle.block_reclamation.specs.Status.{most_blocks};
 ghost use Rattle.graph_version.specs.Versions.{empty_version_in};
 ghost use Rattle.graph_version.specs.Rebased.{IsRebased};
+ghost use Rattle.store_steps.specs.Opening.{IsVersionZero, opened_desk};
 ghost use Rattle.desk.specs.Openings.{OpensWith};
 ghost use Rattle.desk.specs.Refusals.{block_count};
 
@@ -19,7 +20,7 @@ use std::sync::Arc;
 
 /// Version 0 of a store with the pool that its blocks are of, and their numbers, which the journal replays from.
 #[derive(Drop)]
-pub(crate) struct Zero {
+pub struct Zero {
     pub(crate) version: Arc<Version>,
     pub(crate) numbers: ToldNumbers,
     pub(crate) pool: Pool,
@@ -41,8 +42,30 @@ impl Zero {
         })
     }
 
-    /// A version that begins with what this one holds, over copies of its blocks.
-    pub(crate) fn over(alloc: Global, blocks: u32, version: &Version) -> Result<Zero, AllocError>
+    /// Version 0 and the pool of its blocks, where these were made apart.
+    ///
+    /// ```
+    /// let zero = Zero::of(alloc, version, pool)?;
+    /// ```
+    pub fn of(alloc: Global, version: Version, pool: Pool) -> Result<Zero, AllocError>
+        ensures opens { IfOk result (λ zero. (blocks : ℕ) → IsVersionZero blocks version → pool ≡ (opened_desk blocks version).pool
+            → OpensWith blocks zero) }
+        ensures version { IfOk result (λ zero. arc_value {X = Version} zero.version ≡ version) }
+    {
+        let numbers = ToldNumbers::of(&version);
+        Ok(Zero {
+            version: Arc::new(alloc, version)?,
+            numbers,
+            pool,
+        })
+    }
+
+    /// A version that begins with what this one holds, over copies of its blocks, in a pool of so many.
+    ///
+    /// ```
+    /// let zero = Zero::over(alloc, 1_024, &version)?;
+    /// ```
+    pub fn over(alloc: Global, blocks: u32, version: &Version) -> Result<Zero, AllocError>
         requires least { 16 ≤ blocks }
         requires most { blocks ≤ most_blocks }
         requires room { block_count version.now ≤ blocks }
