@@ -1,6 +1,6 @@
 //! Lists whose elements take memory a page at a time, when they are first written.
 
-ghost use Rattle.std.specs.Prelude.{◌≡◌, ◌<◌, ◌≤◌, ◌+◌, ℕ, length, slice_index_or, slice_set, IfOk, OnOk, vec_len};
+ghost use Rattle.std.specs.Prelude.{◌≡◌, ◌<◌, ◌≤◌, ◌+◌, ℕ, length, slice_index_or, slice_set, IfOk, OnOk, vec_len, true};
 ghost use Rattle.block_pool.specs.Paging.{HasRoom, by_place};
 
 use std::alloc::{AllocError, Global};
@@ -106,6 +106,14 @@ impl<T: Blank> Pages<T> {
             Some(item) => *item,
             None => T::blank(place),
         }
+    }
+
+    /// Whether there is memory for the element at a place.
+    pub fn has(&self, place: usize) -> bool
+        requires { place < length self.now.items }
+        ensures { result ≡ true → HasRoom self.now.rooms place }
+    {
+        place % PAGE < self.pages[place / PAGE].len()
     }
 
     /// Writes the element at a place.

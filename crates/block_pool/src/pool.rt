@@ -202,6 +202,48 @@ impl Pool {
     {
         self.numbers.recycle(copy)
     }
+
+    /// Gives up the bodies of free blocks, but for so many that are granted next: a grant makes them anew. It takes time by how
+    /// many it gives up, since it goes back no further than to a block that has none: mostly the blocks below were never granted.
+    ///
+    /// ```
+    /// pool.slim(4_096);
+    /// ```
+    pub fn slim(&mut self, keep: usize)
+        ensures { self.new ≡ self.old }
+    {
+        let spare = self.numbers.free_len.saturating_sub(keep);
+        give_up(&self.numbers, &mut self.bodies, spare);
+    }
+}
+
+/// Gives up the bodies of the first so many free numbers, the last one first, up to one that has none.
+fn give_up(numbers: &Numbers, bodies: &mut Pages<Option<Arc<Block>>>, count: usize)
+    requires kept { IsNumbers numbers.now }
+    requires few { count ≤ numbers.now.free_len }
+    requires bodies { AreBodies (length numbers.now.statuses.items) bodies.old.items }
+    ensures bodies { AreBodies (length numbers.now.statuses.items) bodies.new.items }
+    ensures rooms { bodies.new.rooms ≡ bodies.old.rooms }
+{
+    let mut place = count;
+    'back: while place > 0 {
+        place -= 1;
+        let number = numbers.free.get(place);
+        if !drop_body(bodies, number) {
+            return;
+        }
+    }
+}
+
+/// Lets the body of a number go, if there is one.
+fn drop_body(bodies: &mut Pages<Option<Arc<Block>>>, number: u32) -> bool
+    requires within { number < length bodies.old.items }
+    requires bodies { AreBodies (length bodies.old.items) bodies.old.items }
+    ensures bodies { AreBodies (length bodies.old.items) bodies.new.items }
+    ensures rooms { bodies.new.rooms ≡ bodies.old.rooms }
+{
+    let place = number as usize;
+    bodies.has(place) && bodies.take(place).is_some()
 }
 
 /// The last `count` of the free numbers with their memory, and a block of each in that order. Where memory is refused, only

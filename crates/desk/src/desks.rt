@@ -294,6 +294,13 @@ impl Desk {
         }
     }
 
+    /// Gives up the bodies of free blocks, but for so many that are granted next, as [`Pool::slim`].
+    pub fn slim(&mut self, keep: usize)
+        ensures { self.new ≡ self.old }
+    {
+        self.parts.pool.slim(keep);
+    }
+
     /// Ends the desk: the last version comes back, and all else is given back.
     pub fn close(self) -> Arc<Version>
         ensures { arc_value {X = Version} result ≡ self.last }

@@ -154,6 +154,17 @@ impl OwnedDesk {
         self.desk.collect(&copy)
     }
 
+    /// Gives up the memory of free blocks, but for so many: a batch that takes more makes their memory anew.
+    ///
+    /// ```
+    /// desk.slim(4_096);
+    /// ```
+    pub fn slim(&mut self, keep: usize)
+        ensures { self.new ≡ self.old }
+    {
+        self.desk.slim(keep);
+    }
+
     /// Holds the last version: its number has a pin that is settled at it, and is counted. `NoSeat` where 16 other numbers are
     /// held, and `OutOfMemory` where no shared copy of the version is to be had, or no further one of its holds counted.
     ///
@@ -214,7 +225,7 @@ impl OwnedDesk {
     /// or if no further opening can be counted; all is as it was then.
     ///
     /// It takes memory and time by blocks, 4 bytes each, and not by edges; where batches are kept, also for the content as plain
-    /// lists.
+    /// lists. The memory of free blocks is given up.
     pub fn rebase(&mut self) -> Result<(), AllocError>
         ensures zero { OnOk result (IsVersionZero (length self.old.desk.pool) self.new.desk.last) }
         ensures rebased { OnOk result (IsRebased self.old.desk.last self.new.desk.last) }

@@ -81,7 +81,8 @@ fn numbers_in(alloc: Global, version: &Version) -> Result<Vec<u32>, AllocError>
     Ok(numbers)
 }
 
-/// Has blocks in use born with a version, and frees those that were retired up to another one.
+/// Has blocks in use born with a version, and frees those that were retired up to another one. The bodies of free blocks are given
+/// up.
 fn reset_pool(pool: &mut Pool, numbers: &[u32], born: u64, last: u64)
     requires { AreInUseOnce numbers.now pool.old }
     ensures { pool.new ≡ map (recycled (without_pins last)) (marked numbers.now (Used born) pool.old) }
@@ -91,4 +92,5 @@ fn reset_pool(pool: &mut Pool, numbers: &[u32], born: u64, last: u64)
         last,
         ..PinCopy::none()
     });
+    pool.slim(0);
 }
