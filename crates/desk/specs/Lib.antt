@@ -6,6 +6,7 @@ pub mod Kept
 pub mod Tables
 pub mod Openings
 pub mod Owned
+pub mod Machine
 pub mod Ready
 pub mod Refusals
 pub mod Told

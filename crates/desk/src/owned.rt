@@ -9,14 +9,18 @@ ghost use Rattle.graph_version.specs.Versions.{content};
 ghost use Rattle.graph_version.specs.Rebased.{IsRebased};
 ghost use Rattle.block_reclamation.specs.Status.{is_free, is_retired, is_reclaimable};
 ghost use Rattle.block_reclamation.specs.Board.{IsLeast};
+ghost use Rattle.epoch_core.specs.Worlds.{World};
 ghost use Rattle.store_steps.specs.Boards.{raised_board};
 ghost use Rattle.store_steps.specs.Desks.{IsCollected, births_in};
 ghost use Rattle.store_steps.specs.Opening.{IsVersionZero, opened_desk};
 ghost use Rattle.store_steps.specs.Acceptances.{Accepts};
+ghost use Rattle.store_steps.specs.Shown.{ShowsWorld};
 ghost use Rattle.store_steps.specs.Steps.{SimulatesAt, recycling};
 ghost use Rattle.desk.specs.Owned.{opened_owned, HoldsOnce, RefusesHold, IsReleased, RefusesRelease, copied};
 ghost use Rattle.desk.specs.Owned.{IsSeatFor, IsSeatOf, ReleasesOnce, count_at, held_pin, with_hold};
 ghost use Rattle.desk.specs.Openings.{OpensWith};
+ghost use Rattle.desk.specs.Machine.{Follows, FollowsBatch, FollowsHold, FollowsRelease, HeldAreSnapshots, LeavesHeldBlocks};
+ghost use Rattle.desk.specs.Machine.{IsNumbered, IsUnheld, ShowsMachineStart, ShowsOwned, collect_events};
 ghost use Rattle.desk.specs.Refusals.{Refuses, IsWithin};
 
 use crate::desks::{Collected, Desk};
@@ -93,7 +97,8 @@ pub struct Held {
 impl OwnedDesk {
     /// A desk of which nothing is held. It takes no memory.
     pub fn over(desk: Desk) -> OwnedDesk
-        ensures { result ≡ opened_owned desk 0 }
+        ensures opened { result ≡ opened_owned desk 0 }
+        ensures shown { (w : World) → ShowsWorld desk w → IsUnheld w → ShowsOwned result w }
     {
         OwnedDesk::opened(desk, 0)
     }
@@ -132,6 +137,8 @@ impl OwnedDesk {
         ensures within { OnOk result (IsWithin self.old.desk.last (count_by is_free self.old.desk.pool) (batch_value batch)) }
         ensures refused { IfErr result (Refuses self.old.desk.last (count_by is_free self.old.desk.pool) (batch_value batch)) }
         ensures held { self.new ≡ record self.old { desk = self.new.desk } }
+        ensures follows { OnOk result (FollowsBatch self.old (batch_value batch) self.new) }
+        ensures snapshots { HeldAreSnapshots self.new }
         ensures unchanged { OnErr result (self.new ≡ self.old) }
     {
         self.desk.apply(batch)
@@ -149,6 +156,9 @@ impl OwnedDesk {
         ensures recycled { result.recycled
             ≡ count_by (is_reclaimable (copied self.old.desk self.old.board)) self.old.desk.pool }
         ensures retired { result.retired ≡ count_by is_retired self.new.desk.pool }
+        ensures follows { Follows self.old (collect_events self.old) self.new }
+        ensures exact { LeavesHeldBlocks self.old self.new }
+        ensures snapshots { HeldAreSnapshots self.new }
     {
         let copy = self.board.raise(self.desk.last().number());
         self.desk.collect(&copy)
@@ -177,6 +187,9 @@ impl OwnedDesk {
         ensures version { IfOk result (λ h. arc_value {X = Version} h.version ≡ self.old.desk.last) }
         ensures hold { IfOk result (λ h. h.hold
             ≡ record { opening = self.old.opening; number = length self.old.desk.last.batches }) }
+        ensures follows { OnOk result (FollowsHold self.old self.new) }
+        ensures numbered { IfOk result (λ h. (w : World) → ShowsOwned self.new w
+            → IsNumbered w h.hold.number (arc_value {X = Version} h.version)) }
         ensures refused { IfErr result (RefusesHold self.old (length self.old.desk.last.batches)) }
         ensures unchanged { OnErr result (self.new ≡ self.old) }
     {
@@ -203,6 +216,7 @@ impl OwnedDesk {
     /// where the number isn't held, or the opening never was.
     pub fn release(&mut self, hold: Hold) -> Result<(), ReleaseError>
         ensures released { OnOk result (IsReleased self.old hold self.new) }
+        ensures follows { OnOk result (FollowsRelease self.old hold self.new) }
         ensures refused { OnErr result (RefusesRelease self.old hold) }
         ensures unchanged { OnErr result (self.new ≡ self.old) }
     {
@@ -231,6 +245,7 @@ impl OwnedDesk {
         ensures rebased { OnOk result (IsRebased self.old.desk.last self.new.desk.last) }
         ensures opened { OnOk result (self.new
             ≡ opened_owned (opened_desk (length self.old.desk.pool) self.new.desk.last) (self.old.opening + 1)) }
+        ensures starts { OnOk result (ShowsMachineStart self.new) }
         ensures unchanged { OnErr result (self.new ≡ self.old) }
     {
         let Some(next) = self.opening.checked_add(1) else {

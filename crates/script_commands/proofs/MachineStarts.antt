@@ -1,15 +1,13 @@
 -- A server that has just opened shows a start of the machine.
 use Rattle.std.proofs.Common.{◌≡◌, ℕ, zero, suc, ◌∷◌, length, map, replicate, refl, sym, ap, subst, ◌∙◌}
 use Rattle.std.specs.Prelude.{Option, None, Ok}
-use Rattle.graph_types.specs.{Graph.{Graph, content_of, graph_in, map_of}, Step.left_by}
-use Rattle.graph_types.specs.declared.contents.Content.{Content}
-use Rattle.graph_version.specs.{Edges.{AreEachOnce, edges_in_blocks}, Rebased.IsRebased, Rows.blocks_of}
-use Rattle.graph_version.{specs.Versions.{VersionView, content, empty_version_in}, proofs.Shown.rows_each_once}
+use Rattle.graph_types.specs.Graph.{graph_in}
+use Rattle.graph_version.specs.{Rebased.IsRebased, Versions.empty_version_in}
 use Rattle.epoch_core.specs.declared.session_states.SessionState.{TheVariants.Idle}
 use Rattle.epoch_core.specs.{Versions.{graph_at, graph_of_opening}, Worlds.{MachineState, World, start_world_in}}
 use Rattle.epoch_core.proofs.Steps.{start_is_start}
 use Rattle.store_steps.specs.{Desks.DeskView, Opening.{IsVersionZero, OpensAsMachine, opened_desk, opened_start}, Shown.ShowsWorld}
-use Rattle.store_steps.proofs.OpeningShown.{opens_as_machine}
+use Rattle.store_steps.proofs.OpeningShown.{content_in, content_opens, opens_as_machine}
 use Rattle.stream_store.specs.{Configs.ConfigView, Seats.{SessionView, held_version}}
 use Rattle.script_commands.specs.Machine.{Restarts, ShowsMachine, StartsMachine, held_at, session_for}
 use Rattle.script_commands.specs.{Servers.IsServer, Slots.{IsPinnedBySlots, held_slots, held_of}, States.{Held, version_in}}
@@ -48,17 +46,6 @@ starts config server last desk pinned floor none =
     )
 
 -- A rebase
-
--- what a version that has just opened begins with, over the edges in its blocks
-abbrev content_in : VersionView → Content
-content_in v = content_of v.opening.names v.opening.kinds (edges_in_blocks (blocks_of v.rows))
-
-content_opens : (blocks : ℕ) (v : VersionView) → IsVersionZero blocks v → graph_in v.opening.limits (content_in v) ≡ v.opening
-content_opens blocks v zero_is =
-    let alone : content v ≡ v.opening = ap (λ bs. left_by bs v.opening) zero_is.alone in
-    let once : AreEachOnce (edges_in_blocks (blocks_of v.rows)) (content v) = rows_each_once (content v) v.rows zero_is.version.rows in
-    let edges : map_of (edges_in_blocks (blocks_of v.rows)) ≡ v.opening.edges = once.same ∙ ap (λ (g : Graph). g.edges) alone in
-    λ i. record { names = v.opening.names; kinds = v.opening.kinds; edges = edges i; limits = v.opening.limits }
 
 pub restarts : (old new : Server) (slot blocks n : ℕ) (s : SessionView) (here : MachineState) → IsServer old
     → slice_get old.slots.sessions.items slot ≡ Some (Some s) → IsRebased (held_version s) new.desk.desk.last

@@ -20,6 +20,7 @@ pub mod BatchLaws
 pub mod StatusCounts
 pub mod Examples
 pub mod Held
+pub mod KeptVersions
 pub mod ExactCollection
 pub mod Dated
 pub mod SeatCalls

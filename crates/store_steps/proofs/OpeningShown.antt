@@ -5,11 +5,12 @@ use Rattle.std.proofs.lemmas.{List.Elements.{All-head, All-tail, All-cons}, Grin
 use Rattle.std.specs.{Option.option_map, Prelude.{map, slice_get, slice_set, if◌then◌else◌}, List.flat_map}
 use Rattle.std.specs.declared.option.Option.TheVariants.{Some}
 use Rattle.block_pool.{proofs.Grants.length-marked, specs.Pools.marked, specs.Pools.is_used_at}
-use Rattle.graph_types.specs.{Graph.graph_in, Graph.content_of, Graph.IsContentIn, Limits.{LimitsView, AreLimits}, declared.contents.Content.Content}
+use Rattle.graph_types.specs.{Graph.{Graph, graph_in, content_of, IsContentIn, map_of}, Step.left_by, Limits.{LimitsView, AreLimits}}
+use Rattle.graph_types.specs.declared.contents.Content.{Content}
 use Rattle.graph_types.specs.declared.ids.Edge.{Edge}
 use Rattle.edge_block.specs.Slots.{BlockView}
-use Rattle.graph_version.specs.{Rows.{blocks_of, numbers_of}, Edges.{edges_in_block, edges_in_blocks}, Versions.VersionView}
-use Rattle.graph_version.{specs.Versions.empty_version_in, proofs.{Empty.is_empty_version_in, Shown.rows_each_once}}
+use Rattle.graph_version.specs.{Rows.{blocks_of, numbers_of}, Edges.{AreEachOnce, edges_in_block, edges_in_blocks}, Versions.VersionView}
+use Rattle.graph_version.{specs.Versions.{content, empty_version_in}, proofs.{Empty.is_empty_version_in, Shown.rows_each_once}}
 use Rattle.block_reclamation.specs.Status.{is_among, is_used, is_at}
 use Rattle.block_reclamation.specs.declared.status.BlockStatus.{BlockStatus, TheVariants.Free, TheVariants.Used}
 use Rattle.block_reclamation.proofs.{ListedNumbers.listed_below, OneStatus.{free_at, none_born, used_or_free}, SeatPins.no_pin}
@@ -160,6 +161,19 @@ module _ (sessions blocks : ℕ) (v : VersionView) (c : Content) (zero_is : IsVe
     start = is_start;
     opening = is_opening;
   }
+
+-- The content
+
+-- what a version that has just opened begins with, over the edges in its blocks
+abbrev pub content_in : VersionView → Content
+content_in v = content_of v.opening.names v.opening.kinds (edges_in_blocks (blocks_of v.rows))
+
+pub content_opens : (blocks : ℕ) (v : VersionView) → IsVersionZero blocks v → graph_in v.opening.limits (content_in v) ≡ v.opening
+content_opens blocks v zero_is =
+    let alone : content v ≡ v.opening = ap (λ bs. left_by bs v.opening) zero_is.alone in
+    let once : AreEachOnce (edges_in_blocks (blocks_of v.rows)) (content v) = rows_each_once (content v) v.rows zero_is.version.rows in
+    let edges : map_of (edges_in_blocks (blocks_of v.rows)) ≡ v.opening.edges = once.same ∙ ap (λ (g : Graph). g.edges) alone in
+    λ i. record { names = v.opening.names; kinds = v.opening.kinds; edges = edges i; limits = v.opening.limits }
 
 -- Over no blocks
 
