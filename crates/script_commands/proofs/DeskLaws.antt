@@ -27,7 +27,7 @@ use Rattle.script_commands.specs.States.{left_by_pending, recycled_blocks, set_u
 
 -- Counts
 
-same_counts : (p q : BlockStatus → Bool) → ((s : BlockStatus) → p s ≡ q s) → (pool : List BlockStatus) → count_by p pool ≡ count_by q pool
+pub same_counts : (p q : BlockStatus → Bool) → ((s : BlockStatus) → p s ≡ q s) → (pool : List BlockStatus) → count_by p pool ≡ count_by q pool
 same_counts p q same [] = refl
 same_counts p q same (s ∷ pool) =
     let a = count_more p s pool in
@@ -46,7 +46,7 @@ parts (s ∷ pool) =
     let rest = parts pool in
     omega arith
 
-all_counted_in : (xs : List Dates) → count_by (λ _. true) xs ≡ length xs
+pub all_counted_in : (xs : List Dates) → count_by (λ _. true) xs ≡ length xs
 all_counted_in [] = refl
 all_counted_in (x ∷ xs) = let one = count_more (λ (y : Dates). true) x xs in let rest = all_counted_in xs in omega arith
 
@@ -188,7 +188,7 @@ shows_given_up s d shows = record {
 
 -- A collection
 
-reclaimable_is : (s : ServerState) (d : DeskView) (copy : PinCopy) → ShowsDesk d s → copy ≡ copy_in s
+pub reclaimable_is : (s : ServerState) (d : DeskView) (copy : PinCopy) → ShowsDesk d s → copy ≡ copy_in s
     → count_by (is_reclaimable copy) d.pool ≡ recycled_blocks s
 reclaimable_is s d copy shows same =
     same_counts (is_reclaimable copy) (is_retired_by (λ birth retirement. not (needs copy birth retirement))) (reclaimable_any copy) d.pool

@@ -1,5 +1,6 @@
 pub mod SlotLaws
 pub mod DeskLaws
+pub mod CollectLine
 pub mod Commands
 pub mod Replies
 pub mod Asking

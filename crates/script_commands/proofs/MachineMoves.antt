@@ -58,7 +58,7 @@ pins_for : (held : List (Option Held)) → map seat_pin (map session_for held) �
 pins_for [] = refl
 pins_for (h ∷ held) = λ i. pin_for h i ∷ pins_for held i
 
-copy_shown : (server : Server) (w : World) → ShowsMachine server w
+pub copy_shown : (server : Server) (w : World) → ShowsMachine server w
     → present_copy w ≡ copy_of (length server.desk.desk.last.batches) (pins_of (held_slots server.slots))
 copy_shown server w shows =
     let held = held_slots server.slots in

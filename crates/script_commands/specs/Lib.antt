@@ -2,3 +2,4 @@ pub mod States
 pub mod Slots
 pub mod Servers
 pub mod Machine
+pub mod Collected

@@ -2,7 +2,9 @@
 //! `specs/States.antt` says what that is, and which state it leaves.
 #![tactic(auto)]
 
+mod laws;
 mod server;
 mod slots;
 
+pub use laws::law_collect_line;
 pub use server::{Response, Server, Stop};
