@@ -187,9 +187,10 @@ uint32_t misteluk_desk_apply(misteluk_desk *desk, misteluk_batch *batch, mistelu
 /* Applies insertions of one kind, whose vertices are numbers in a dictionary of names: the name of number n are the bytes of `text`
  * from ends[n - 1], or from 0, to below ends[n]. A batch, and so a version, has as many times 4,096 of them as there are free
  * blocks for, at most 65,536; where there are fewer free ones it has 4,096, and blocks that nobody needs are collected if it must
- * be. If a larger batch is refused, that one and those behind it have 4,096. `done` tells how many insertions were applied, also
- * after a refusal, and `counts` what became of them; the first that is refused, and those of its 4,096, are not in. The codes of
- * an insertion and of `apply`, and BAD_LENGTH, BAD_NUMBER. */
+ * be. They are collected after each batch, too. If a larger batch is refused, and not for MEMORY, that one and those behind it
+ * have 4,096. `done` tells how many insertions were applied, also after a refusal, and `counts` what became of them; the first that
+ * is refused, and those of its batch, are not in. In the end the memory of most free blocks is given up. The codes of an insertion
+ * and of `apply`, and BAD_LENGTH, BAD_NUMBER. */
 uint32_t misteluk_desk_insert_columns(misteluk_desk *desk, const char *kind, size_t kind_length, const char *text,
     size_t text_length, const uint64_t *ends, size_t ends_length, const uint32_t *sources, size_t sources_length,
     const uint32_t *targets, size_t targets_length, const int64_t *weights, size_t weights_length, const uint64_t *times,

@@ -236,6 +236,19 @@ class Memory(unittest.TestCase):
                 it.free()
         self.assertGreaterEqual(most, 4096)
 
+    def test_out_of_memory_makes_no_batch_smaller(self) -> None:
+        """Of 9,000 edges a desk of 9,000 blocks takes 8,192 at once. Where one request is refused, that batch is in as it is, or
+        the call ends without it."""
+        edges, ends = [(it % 3, (it + 1) % 3, it, it) for it in range(9_000)], set()
+        for place in [*range(1, 40), *range(40, 60_000, 1_499)]:
+            desk = Desk(self.failing.library, 9_000)
+            self.failing.refuse_calls(place, place)
+            code, done, counts = desk.insert_columns(b"k", [b"a", b"b", b"c"], edges)
+            self.failing.refuse_calls(0, 0)
+            ends.add((code, done, counts.version))
+            desk.free()
+        self.assertEqual(ends, {(Code.MEMORY, 0, 0), (Code.MEMORY, 8_192, 1), (Code.OK, 9_000, 2)})
+
 
 if __name__ == "__main__":
     unittest.main()

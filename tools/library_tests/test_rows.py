@@ -227,12 +227,17 @@ class Rows(unittest.TestCase):
         self.assertEqual(desk.insert_columns(b"k", names, edges)[:2], (Code.BLOCKS_FULL, 0))
         self.assertEqual(self.stat(desk), (2, 11, 10, 5, 10, 10))
         desk.release(held)
+        # Five are free, and ten more once they are collected; and the ten that it retires are collected behind it.
         self.assertEqual(desk.insert_columns(b"k", names, edges)[:2], wanted)
-        self.assertEqual(self.stat(desk), (3, 11, 10, 5, 10, 10))
+        self.assertEqual(self.stat(desk), (3, 11, 10, 15, 0, 10))
         # What a refused load collects stays collected: five are free, and with those ten too few for sixteen.
+        held = desk.hold()
+        self.assertEqual(desk.insert_columns(b"k", names, edges)[:2], wanted)
+        self.assertEqual(self.stat(desk), (4, 11, 10, 5, 10, 10))
+        desk.release(held)
         many = [(it % 10, 0, 1, 1) for it in range(16)]
         self.assertEqual(desk.insert_columns(b"k", names, many)[:2], (Code.BLOCKS_FULL, 0))
-        self.assertEqual(self.stat(desk), (3, 11, 10, 15, 0, 10))
+        self.assertEqual(self.stat(desk), (4, 11, 10, 15, 0, 10))
 
     def test_an_expiry(self) -> None:
         """Edges whose recent time is before it go, one of that time stays; and it asks for as many blocks as are used."""

@@ -6,9 +6,10 @@ use Rattle.block_reclamation.specs.{Status.is_free}
 use Rattle.store_steps.specs.{Boards.raised_board, Desks.IsCollected, Acceptances.Accepts}
 use Rattle.desk.specs.{Owned.{OwnedView, copied}, Refusals.{Refuses, IsWithin}, declared.ready.Accepted.Accepted}
 use Rattle.graph_types.specs.declared.refusals.ApplyError.{ApplyError}
-use Rattle.graph_types.specs.declared.refusals.ApplyError.TheVariants.{PoolEmpty}
+use Rattle.graph_types.specs.declared.refusals.ApplyError.TheVariants.{PoolEmpty, OutOfMemory as NoMemory}
+use Rattle.graph_types.specs.declared.batches.PushError.TheVariants.{OutOfMemory as MemoryRanOut}
 use Rattle.batch_columns.specs.Dictionaries.{Insertions, insertion_at, insertions_from, IsInserted}
-use Rattle.batch_columns.specs.declared.columns.InsertError.{InsertError}
+use Rattle.batch_columns.specs.declared.columns.InsertError.{InsertError, TheVariants.{Refused as InsertRefused}}
 use Rattle.desk_columns.specs.declared.columns.Insertions.{Insertions as Lent}
 use Rattle.desk_columns.specs.declared.columns.InsertColumnsError.{InsertColumnsError}
 use Rattle.desk_columns.specs.declared.columns.InsertColumnsError.TheVariants.{BadLength, BadInsertion, Refused, OutOfMemory}
@@ -69,18 +70,20 @@ pub record IsTried (old : OwnedView) (ops : List NamedOp) (answer : Result Accep
   pub collected : ComesBefore answer ops old from
   pub applied : IsFeedApplied from ops answer new
 
--- a batch is taken, and counted
+-- a batch is taken and counted, and a collection follows
 pub record TakesFeed (old : OwnedView) (counts : Counts) (ops : List NamedOp) (new : OwnedView) (counted : Counts) : Type 0 where
   pub from : OwnedView
   pub collected : MayCollect ops old from
   pub within : IsWithin from.desk.last (count_by is_free from.desk.pool) ops
-  pub accepts : Accepts from.desk ops new.desk
-  pub held : new ≡ record from { desk = new.desk }
-  pub counted_is : counted ≡ with_outcomes counts (length new.desk.last.batches) (outcomes ops (content from.desk.last))
+  pub behind : OwnedView
+  pub accepts : Accepts from.desk ops behind.desk
+  pub held : behind ≡ record from { desk = behind.desk }
+  pub counted_is : counted ≡ with_outcomes counts (length behind.desk.last.batches) (outcomes ops (content from.desk.last))
+  pub collects : Collects behind new
 
 -- a batch is refused, and no more than a collection was done for it; by its blocks only where too few are free after one
-abbrev pub RefusesBatch : OwnedView → List NamedOp → ApplyError → OwnedView → Type 0
-RefusesBatch old ops error new =
+abbrev pub RefusesFeed : OwnedView → List NamedOp → ApplyError → OwnedView → Type 0
+RefusesFeed old ops error new =
     ComesBefore (Err error) ops old new × Refuses new.desk.last (count_by is_free new.desk.pool) ops error
 
 -- of so many insertions from a place on, the first that is refused
@@ -120,18 +123,32 @@ pub data AreIn (first : OwnedView) (start : Counts) (c : Insertions) : ℕ → O
   More : (at count : ℕ) (old new : OwnedView) (counts counted : Counts) → AreIn first start c at old counts
       → TakesNext c at count old counts new counted → AreIn first start c (at + count) new counted
 
--- why the batch of one part from a place on isn't in, and what it left
-abbrev pub RefusesPart : Insertions → ℕ → OwnedView → InsertColumnsError → OwnedView → Type 0
-RefusesPart c at old BadLength new = ⊥
-RefusesPart c at old (BadInsertion error) new = IsFirstRefusedRow c at (batch_length 1 c at) error × (new ≡ old)
-RefusesPart c at old (Refused error) new =
-    (ops : List NamedOp) × (insertions_from c at (batch_length 1 c at) ≡ Some ops) × RefusesBatch old ops error new
-RefusesPart c at old OutOfMemory new = new ≡ old
+-- why the batch of so many parts from a place on isn't in, and what it left
+abbrev pub RefusesBatch : ℕ → Insertions → ℕ → OwnedView → InsertColumnsError → OwnedView → Type 0
+RefusesBatch parts c at old BadLength new = ⊥
+RefusesBatch parts c at old (BadInsertion error) new = IsFirstRefusedRow c at (batch_length parts c at) error × (new ≡ old)
+RefusesBatch parts c at old (Refused error) new =
+    (ops : List NamedOp) × (insertions_from c at (batch_length parts c at) ≡ Some ops) × RefusesFeed old ops error new
+RefusesBatch parts c at old OutOfMemory new = new ≡ old
+
+-- whether a refusal says no more than that memory ran out
+abbrev pub is_out_of_memory : InsertColumnsError → Bool
+is_out_of_memory (BadInsertion (InsertRefused MemoryRanOut)) = true
+is_out_of_memory (Refused NoMemory) = true
+is_out_of_memory OutOfMemory = true
+is_out_of_memory _ = false
+
+-- why the next batch isn't in: one of one part is refused, or memory ran out for one that the desk takes
+pub record RefusesNext (c : Insertions) (at : ℕ) (old : OwnedView) (error : InsertColumnsError) (new : OwnedView) : Type 0 where
+  pub parts : ℕ
+  pub bears : BearsParts old parts
+  pub reason : (parts ≡ 1) ⊎ (is_out_of_memory error ≡ true)
+  pub refuses : RefusesBatch parts c at old error new
 
 -- the same of the whole, of which the insertions before a place are in; some are left where the columns have one length
 abbrev pub RefusesRest : Insertions → ℕ → OwnedView → InsertColumnsError → OwnedView → Type 0
 RefusesRest c done old BadLength new = (are_alike_columns c ≡ false) × (done ≡ 0) × (new ≡ old)
-RefusesRest c done old error new = (are_alike_columns c ≡ true) × (done < length c.sources) × RefusesPart c done old error new
+RefusesRest c done old error new = (are_alike_columns c ≡ true) × (done < length c.sources) × RefusesNext c done old error new
 
 abbrev pub Ends : Insertions → ℕ → OwnedView → Result (Unit {0}) InsertColumnsError → OwnedView → Type 0
 Ends c done old (Ok _) new = (are_alike_columns c ≡ true) × (done ≡ length c.sources) × (new ≡ old)

@@ -8,12 +8,13 @@ ghost use Rattle.block_reclamation.specs.Status.{is_free};
 ghost use Rattle.batch_columns.specs.Dictionaries.{insertion_at, insertions_from, IsInserted};
 ghost use Rattle.desk_counts.specs.Counted.{none_counted, with_outcomes};
 ghost use Rattle.desk_columns.specs.Feeding as specs;
-ghost use Rattle.desk_columns.specs.Feeding.{columns_of, batch_length, most_parts, BearsParts, IsFeedApplied, IsFirstRefusedRow, IsTried, RefusesPart, TakesFeed, TakesNext, Feeds};
+ghost use Rattle.desk_columns.specs.Feeding.{columns_of, batch_length, most_parts, is_out_of_memory, BearsParts, Collects, IsFeedApplied, IsFirstRefusedRow};
+ghost use Rattle.desk_columns.specs.Feeding.{IsTried, RefusesBatch, RefusesNext, TakesFeed, TakesNext, Feeds};
 
 use batch_columns::{InsertError, insert_numbers};
 use desk::{Accepted, ApplyError, OwnedDesk};
 use desk_counts::Counts;
-use graph_types::{Batch, MOST_OPERATIONS, OPERATION_LIMIT};
+use graph_types::{Batch, MOST_OPERATIONS, OPERATION_LIMIT, PushError};
 use std::alloc::{AllocError, Global};
 use std::sync::Arc;
 use thiserror::Error;
@@ -122,64 +123,36 @@ fn apply_collecting(
     }
 }
 
-/// Counts what became of a batch that was accepted.
-fn count_accepted(counts: &mut Counts, accepted: &Accepted)
-    ensures { counts.new ≡ with_outcomes counts.old accepted.now.number accepted.now.outcomes }
+/// Counts what became of a batch that was accepted, and recycles the blocks that it replaced, so that the next one takes these.
+fn count_and_collect(desk: &mut OwnedDesk, counts: &mut Counts, accepted: &Accepted)
+    ensures counts { counts.new ≡ with_outcomes counts.old accepted.now.number accepted.now.outcomes }
+    ensures collects { Collects desk.old desk.new }
 {
     *counts = counts.with_all(accepted.number, accepted.outcomes.as_slice());
+    let _collected = desk.collect();
 }
 
-/// Applies so many insertions from a place on as one batch, and counts them; or changes nothing.
-fn insert_whole(
-    alloc: Global,
-    desk: &mut OwnedDesk,
-    insertions: &Insertions<'_>,
-    from: usize,
-    count: usize,
-    counts: &mut Counts,
-) -> Result<(), InsertColumnsError>
-    requires few { count ≤ most_operations }
-    requires within { from + count ≤ length insertions.now.sources.now }
-    requires alike { specs.are_alike_columns (columns_of insertions.now) ≡ true }
-    ensures taken { IfOk result (λ _. (ops : List NamedOp) × (insertions_from (columns_of insertions.now) from count ≡ Some ops)
-        × TakesFeed desk.old counts.old ops desk.new counts.new) }
-    ensures unchanged { OnErr result (desk.new ≡ desk.old) }
-    ensures counts { OnErr result (counts.new ≡ counts.old) }
-{
-    let batch = match batch_of(alloc, insertions, from, count) {
-        Ok(batch) => batch,
-        Err(error) => return Err(InsertColumnsError::BadInsertion(error)),
-    };
-    let Ok(batch) = Arc::new(alloc, batch) else {
-        return Err(InsertColumnsError::OutOfMemory);
-    };
-    match apply_once(desk, batch) {
-        Ok(accepted) => {
-            count_accepted(counts, &accepted);
-            Ok(())
-        }
-        Err(error) => Err(InsertColumnsError::Refused(error)),
-    }
-}
-
-/// Applies the insertions of the batch of one part from a place on, and counts them.
+/// Applies the insertions of a batch of so many parts from a place on, counts them, collects, and tells how many they were.
 #[tactic(auto, using(crate::proofs::Inserted::taken_of, crate::proofs::Inserted::refused_of))]
-fn insert_part(
+fn insert_batch(
     alloc: Global,
     desk: &mut OwnedDesk,
     insertions: &Insertions<'_>,
     from: usize,
-    count: usize,
+    parts: usize,
     counts: &mut Counts,
-) -> Result<(), InsertColumnsError>
-    requires few { count ≡ batch_length 1 (columns_of insertions.now) from }
-    requires within { from + count ≤ length insertions.now.sources.now }
+) -> Result<usize, InsertColumnsError>
+    requires few { parts ≤ most_parts }
+    requires within { from ≤ length insertions.now.sources.now }
     requires alike { specs.are_alike_columns (columns_of insertions.now) ≡ true }
-    ensures taken { IfOk result (λ _. (ops : List NamedOp) × (insertions_from (columns_of insertions.now) from count ≡ Some ops)
+    ensures count { IfOk result (λ count. count ≡ batch_length parts (columns_of insertions.now) from) }
+    ensures taken { IfOk result (λ count. (ops : List NamedOp) × (insertions_from (columns_of insertions.now) from count ≡ Some ops)
         × TakesFeed desk.old counts.old ops desk.new counts.new) }
-    ensures refused { IfErr result (λ e. RefusesPart (columns_of insertions.now) from desk.old e desk.new) }
+    ensures refused { IfErr result (λ e. RefusesBatch parts (columns_of insertions.now) from desk.old e desk.new) }
+    ensures unchanged { parts * operation_limit ≤ count_by is_free desk.old.desk.pool → OnErr result (desk.new ≡ desk.old) }
     ensures counts { OnErr result (counts.new ≡ counts.old) }
 {
+    let count = (parts * OPERATION_LIMIT).min(insertions.sources.len() - from);
     let batch = match batch_of(alloc, insertions, from, count) {
         Ok(batch) => batch,
         Err(error) => return Err(InsertColumnsError::BadInsertion(error)),
@@ -192,25 +165,39 @@ fn insert_part(
     };
     match apply_collecting(desk, batch, again) {
         Ok(accepted) => {
-            count_accepted(counts, &accepted);
-            Ok(())
+            count_and_collect(desk, counts, &accepted);
+            Ok(count)
         }
         Err(error) => Err(InsertColumnsError::Refused(error)),
     }
 }
 
-/// How many parts the desk takes at once by its free blocks.
-fn parts_for(desk: &OwnedDesk) -> usize
-    ensures least { 1 ≤ result }
-    ensures bears { BearsParts desk.now result }
+/// How many parts the desk takes at once of so many insertions, by its free blocks.
+fn parts_for(desk: &OwnedDesk, count: usize) -> usize
+    ensures { BearsParts desk.now result }
 {
     let free = desk.desk().stat().free as usize;
-    (free / OPERATION_LIMIT).min(MOST_PARTS).max(1)
+    (free / OPERATION_LIMIT)
+        .min(count.div_ceil(OPERATION_LIMIT))
+        .min(MOST_PARTS)
+        .max(1)
+}
+
+/// Whether a refusal says no more than that memory ran out.
+fn is_out_of_memory(error: InsertColumnsError) -> bool
+    ensures { result ≡ is_out_of_memory error }
+{
+    matches!(
+        error,
+        InsertColumnsError::OutOfMemory
+            | InsertColumnsError::Refused(ApplyError::OutOfMemory)
+            | InsertColumnsError::BadInsertion(InsertError::Refused(PushError::OutOfMemory))
+    )
 }
 
 /// Applies the next insertions, and tells how many: in a batch of several parts where the desk bears it, and else of one part. Once
-/// a batch of several parts was refused, `is_small` says that all others have one part, so that as many insertions as can be are
-/// in before one that is refused.
+/// a batch of several parts was refused, but not because memory ran out, `is_small` says that all others have one part, so that as many
+/// insertions as can be are in before one that is refused.
 fn insert_next(
     alloc: Global,
     desk: &mut OwnedDesk,
@@ -222,22 +209,22 @@ fn insert_next(
     requires within { from < length insertions.now.sources.now }
     requires alike { specs.are_alike_columns (columns_of insertions.now) ≡ true }
     ensures taken { IfOk result (λ count. TakesNext (columns_of insertions.now) from count desk.old counts.old desk.new counts.new) }
-    ensures refused { IfErr result (λ e. RefusesPart (columns_of insertions.now) from desk.old e desk.new) }
+    ensures refused { IfErr result (λ e. RefusesNext (columns_of insertions.now) from desk.old e desk.new) }
     ensures counts { OnErr result (counts.new ≡ counts.old) }
 {
-    let rest = insertions.sources.len() - from;
-    let part = OPERATION_LIMIT.min(rest);
-    if !*is_small {
-        let whole = (parts_for(desk) * OPERATION_LIMIT).min(rest);
-        if whole > part {
-            match insert_whole(alloc, desk, insertions, from, whole, counts) {
-                Ok(()) => return Ok(whole),
-                Err(_) => *is_small = true,
+    let most = parts_for(desk, insertions.sources.len() - from);
+    if most > 1 && !*is_small {
+        match insert_batch(alloc, desk, insertions, from, most, counts) {
+            Ok(count) => return Ok(count),
+            Err(error) => {
+                if is_out_of_memory(error) {
+                    return Err(error);
+                }
             }
         }
+        *is_small = true;
     }
-    insert_part(alloc, desk, insertions, from, part, counts)?;
-    Ok(part)
+    insert_batch(alloc, desk, insertions, from, 1, counts)
 }
 
 /// Whether the columns have one length.
@@ -257,10 +244,8 @@ fn none_of(desk: &OwnedDesk) -> Counts
     Counts::none(desk.desk().last().number())
 }
 
-/// Applies insertions in batches of up to 65,536: as many times 4,096 as there are free blocks for, or 4,096 after a collection where
-/// there are fewer. A batch that is refused is tried again in parts of 4,096. `done` tells how many insertions were applied, also
-/// after a refusal, and `counts` what became of them; the first that is refused, and those of its part, are not in.
-pub fn insert_columns(
+/// Applies insertions batch after batch, as [`insert_columns`].
+fn insert_all(
     alloc: Global,
     desk: &mut OwnedDesk,
     insertions: &Insertions<'_>,
@@ -285,4 +270,29 @@ pub fn insert_columns(
         *done = at as u64;
     }
     Ok(())
+}
+
+/// For how many of a desk's free blocks the memory is kept: a quarter of the used ones, and at least 4,096.
+fn spare_blocks(desk: &OwnedDesk) -> usize {
+    let used = desk.desk().stat().used as usize;
+    (used / 4).max(OPERATION_LIMIT)
+}
+
+/// Applies insertions in batches of up to 65,536: as many times 4,096 as there are free blocks for, or 4,096 after a collection where
+/// there are fewer. Behind each batch it collects. A batch that is refused is tried again in parts of 4,096, unless memory ran out.
+/// `done` tells how many insertions were applied, also after a refusal, and `counts` what became of them; the first that is refused,
+/// and those of its part, are not in. In the end the memory of free blocks is given up, but for 4,096 of them, or for a quarter as
+/// many as are used.
+pub fn insert_columns(
+    alloc: Global,
+    desk: &mut OwnedDesk,
+    insertions: &Insertions<'_>,
+    counts: &mut Counts,
+    done: &mut u64,
+) -> Result<(), InsertColumnsError>
+    ensures { Feeds desk.old (columns_of insertions.now) result desk.new counts.new done.new }
+{
+    let answer = insert_all(alloc, desk, insertions, counts, done);
+    desk.slim(spare_blocks(desk));
+    answer
 }

@@ -1,31 +1,20 @@
-use Rattle.std.proofs.Common.{◌≡◌, refl, subst, inl, arith, ◌∙◌}
-use Rattle.desk.specs.Owned.{OwnedView}
-use Rattle.desk_counts.specs.declared.counts.Counts.{Counts}
-use Rattle.desk_columns.specs.Feeding.{TakesFeed}
+use Rattle.std.proofs.Common.{◌≡◌, ◌∙◌, ◌<◌, arith}
+use Rattle.desk_columns.specs.Feeding.{columns_of}
+use Rattle.desk_columns.proofs.Inserted.{next_of, several}
 use Rattle.desk_columns.proofs.columns.insert_next.Goals as goal
-use Rattle.desk_columns.proofs.columns.insert_next.Goals.{then-not-is_small+then-whole-part+in-Err, then-not-is_small+else-whole-part, else-not-is_small}
+use Rattle.desk_columns.proofs.columns.insert_next.Goals.{then-most-gt1+then-not-is_small+in-Err+else-is_out_of_memory, else-most-gt1}
 
 pub returns-clause-taken : goal.returns-clause-taken
 returns-clause-taken c =
-    let (ops, fit, takes) = c.in_ok-insert_part.ensures.taken in
-    let desk : c.if-not-is_small.desk ≡ c.args.desk.now = elim c.if-not-is_small.branch [
-      | then-not-is_small+then-whole-part+in-Err w ↦ w.desk-is ∙ w.in-Err.ensures.unchanged
-      | then-not-is_small+else-whole-part w ↦ w.desk-is
-      | else-not-is_small w ↦ w.desk-is
+    let desk : c.if-most-gt1.desk ≡ c.args.desk.now = elim c.if-most-gt1.branch [
+      | then-most-gt1+then-not-is_small+in-Err+else-is_out_of_memory w ↦
+          w.desk-is ∙ w.in-Err.ensures.unchanged (several c.args.desk.now c.parts_for-most.result c.parts_for-most.ensures (omega (arith, w.if-most-gt1)))
+      | else-most-gt1 w ↦ w.desk-is
     ] in
-    let counts : c.if-not-is_small.counts ≡ c.args.counts.now = elim c.if-not-is_small.branch [
-      | then-not-is_small+then-whole-part+in-Err w ↦ w.counts-is ∙ w.in-Err.ensures.counts
-      | then-not-is_small+else-whole-part w ↦ w.counts-is
-      | else-not-is_small w ↦ w.counts-is
+    let counts : c.if-most-gt1.counts ≡ c.args.counts.now = elim c.if-most-gt1.branch [
+      | then-most-gt1+then-not-is_small+in-Err+else-is_out_of_memory w ↦ w.counts-is ∙ w.in-Err.ensures.counts
+      | else-most-gt1 w ↦ w.counts-is
     ] in
-    let from : TakesFeed c.args.desk.now c.if-not-is_small.counts ops c.insert_part.new.desk c.insert_part.new.counts =
-    subst (λ (o : OwnedView). TakesFeed o c.if-not-is_small.counts ops c.insert_part.new.desk c.insert_part.new.counts) desk takes in
-    record {
-      some = omega (arith, c.min-part.ensures);
-      parts = 1;
-      bears = inl refl;
-      count_is = c.min-part.ensures;
-      ops = ops;
-      are = fit;
-      takes = subst (λ (it : Counts). TakesFeed c.args.desk.now it ops c.insert_part.new.desk c.insert_part.new.counts) counts from;
-    }
+    next_of (columns_of c.args.insertions.now) c.args.from c.args.desk.now c.if-most-gt1.desk c.insert_batch-2.new.desk c.args.counts.now
+    c.if-most-gt1.counts c.insert_batch-2.new.counts c.insert_batch-2.result desk counts c.requires.within c.insert_batch-2.ensures.count
+    c.insert_batch-2.ensures.taken

@@ -2,7 +2,7 @@ use Rattle.std.proofs.Common.{rules, ◌≡◌, length, true, refl, arith}
 use Rattle.desk_counts.specs.Counted.{none_counted}
 use Rattle.desk_columns.specs.Feeding.{are_alike_columns, columns_of, AreIn.More}
 use Rattle.desk_columns.proofs.Inserted.{begun, refused_at, still_in}
-use Rattle.desk_columns.proofs.columns.insert_columns.Goals as goal
+use Rattle.desk_columns.proofs.columns.insert_all.Goals as goal
 
 pub returns-then-not-are_alike : goal.returns-then-not-are_alike
 returns-then-not-are_alike c = record {

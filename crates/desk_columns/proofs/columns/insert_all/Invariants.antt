@@ -1,7 +1,7 @@
 use Rattle.std.proofs.Common.{◌≡◌, ◌-◌, ◌≤◌, length}
 use Rattle.desk_counts.specs.Counted.{none_counted}
 use Rattle.desk_columns.specs.Feeding.{AreIn, columns_of}
-use Rattle.desk_columns.proofs.columns.insert_columns.Given as goal
+use Rattle.desk_columns.proofs.columns.insert_all.Given as goal
 
 -- the insertions before the place are in
 abbrev pub invariant-loop-at : goal.invariant-loop-at
