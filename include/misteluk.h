@@ -31,7 +31,7 @@ extern "C" {
 #endif
 
 /* The number of this interface. It grows with each change that an older caller could not take. */
-#define MISTELUK_INTERFACE 2
+#define MISTELUK_INTERFACE 3
 
 enum {
     MISTELUK_OK = 0,
@@ -184,10 +184,18 @@ void misteluk_desk_free(misteluk_desk desk);
 /* Applies a batch, operation after operation, and empties it. NO_HANDLE, BATCHES_FULL, NAMES_FULL, KINDS_FULL, BLOCKS_FULL in
  * this order, or MEMORY; the desk and the batch are as they were then. */
 uint32_t misteluk_desk_apply(misteluk_desk *desk, misteluk_batch *batch, misteluk_counts *counts);
+/* The same in two steps, for a caller who writes a log before anybody sees the version. `begin` makes a batch ready: it meets every
+ * refusal, and takes all the memory that the batch needs; the batch stays in its handle. The handle of the desk then holds the desk
+ * with the batch that is ready: `finish` accepts the batch, and can't be refused; `cancel` leaves the desk of before, takes no
+ * memory and can't be refused either. Until then each other call says NO_HANDLE to this desk, but for `misteluk_desk_free`, which
+ * ends it. Versions that are held answer on. `begin`: the codes of `apply`. `finish`, `cancel`: NO_HANDLE where no batch is ready. */
+uint32_t misteluk_desk_begin(misteluk_desk *desk, misteluk_batch *batch);
+uint32_t misteluk_desk_finish(misteluk_desk *desk, misteluk_counts *counts);
+uint32_t misteluk_desk_cancel(misteluk_desk *desk);
 /* Applies insertions of one kind, whose vertices are numbers in a dictionary of names: the name of number n are the bytes of `text`
  * from ends[n - 1], or from 0, to below ends[n]. A batch, and so a version, has as many times 4,096 of them as there are free
  * blocks for, at most 65,536; where there are fewer free ones it has 4,096, and blocks that nobody needs are collected if it must
- * be. They are collected after each batch, too. If a larger batch is refused, and not for MEMORY, that one and those behind it
+ * be. They are collected behind each batch, too. If a larger batch is refused, and not for MEMORY, that one and those behind it
  * have 4,096. `done` tells how many insertions were applied, also after a refusal, and `counts` what became of them; the first that
  * is refused, and those of its batch, are not in. In the end the memory of most free blocks is given up. The codes of an insertion
  * and of `apply`, and BAD_LENGTH, BAD_NUMBER. */

@@ -232,6 +232,18 @@ class Desk(Owner):
         must(self.library.desk_apply(self.handle, batch.handle, counts))
         return counts
 
+    def begin(self, batch: Batch) -> None:
+        """Makes a batch ready, which stays in its handle."""
+        must(self.library.desk_begin(self.handle, batch.handle))
+
+    def finish(self) -> interface.Counts:
+        counts = interface.Counts()
+        must(self.library.desk_finish(self.handle, counts))
+        return counts
+
+    def cancel(self) -> None:
+        must(self.library.desk_cancel(self.handle))
+
     def insert_columns(self, kind: bytes, names: Sequence[bytes],
                        edges: Sequence[Tuple[int, int, int, int]]) -> Tuple[Code, int, interface.Counts]:
         """Inserts edges, each with the places of two names, a weight and a time. Hands back the code, how many are in, and what

@@ -50,6 +50,9 @@ static void batch_columns(void) { fill(0); }
 static void batch_columns_within(void) { fill(VERTICES); }
 static void batch_expire(void) { code = misteluk_batch_expire(&batch, 1); }
 static void apply(void) { code = misteluk_desk_apply(&desk, &batch, &counts); }
+static void begin(void) { code = misteluk_desk_begin(&desk, &filled); }
+static void finish(void) { code = misteluk_desk_finish(&desk, &counts); }
+static void cancel(void) { code = misteluk_desk_cancel(&desk); }
 static void insert_columns(void)
 {
     code = misteluk_desk_insert_columns(&desk, "k", 1, text, VERTICES * 5, ends, VERTICES, sources, VERTICES, targets, VERTICES,
@@ -163,6 +166,10 @@ int main(void)
         batch_insert();
     measure("batch_insert", batch_insert);
     measure("desk_apply", apply);
+    measure("desk_begin", begin);
+    measure("desk_cancel", cancel);
+    begin();
+    measure("desk_finish", finish);
     measure("desk_stat", stat);
     measure("desk_hold", hold_last);
     measure("version_clone", clone_it);

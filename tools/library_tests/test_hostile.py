@@ -70,8 +70,10 @@ class Hostile(unittest.TestCase):
             it.batch_columns(batch, *name, where, 1, *name, where, 1, *[where, 1] * 6, number),
             it.batch_columns_within(batch, 1, *name, where, 1, *name, where, 1, *[where, 1] * 6, number),
             it.desk_apply(desk, self.batch.handle, counts), it.desk_apply(self.desk.handle, batch, counts),
-            it.desk_apply(desk, batch, counts), it.desk_collect(desk, number), it.desk_stat(desk, interface.Stat()),
-            it.desk_limits(desk, interface.Limits()), it.desk_weight(desk, number),
+            it.desk_apply(desk, batch, counts), it.desk_begin(desk, self.batch.handle), it.desk_begin(self.desk.handle, batch),
+            it.desk_begin(desk, batch), it.desk_finish(desk, counts), it.desk_finish(self.desk.handle, counts),
+            it.desk_cancel(desk), it.desk_cancel(self.desk.handle), it.desk_collect(desk, number),
+            it.desk_stat(desk, interface.Stat()), it.desk_limits(desk, interface.Limits()), it.desk_weight(desk, number),
             it.desk_insert_columns(desk, *name, *name, *[where, 1] * 5, counts, number),
             it.desk_hold(desk, none, interface.Hold()), it.desk_release(desk, interface.Hold()), it.desk_rebase(desk),
             it.version_clone(none, interface.Version()), it.version_size(none, interface.Size()),
@@ -84,8 +86,7 @@ class Hostile(unittest.TestCase):
             it.version_edges(none, view(), few, *[where, 1] * 6, number),
         ]
         self.assertEqual(codes, [Code.NO_HANDLE] * len(codes))
-        self.assertEqual([desk.at, batch.at, none.at], [None] * 3)
-        self.assertEqual([number.value, few.value, *one, *fields(counts)], [0] * 18)
+        self.assertEqual([desk.at, batch.at, none.at, number.value, few.value, *one, *fields(counts)], [None] * 3 + [0] * 18)
         # And these may be given: nothing is there to end.
         it.batch_free(batch), it.desk_free(desk), it.version_free(none)
         # A handle that is to be made holds something already, and holds it still.

@@ -7,7 +7,7 @@ import pathlib
 import subprocess
 import tempfile
 import unittest
-from typing import Callable, List, Optional, Tuple
+from typing import Any, Callable, List, Optional, Tuple
 
 from calls import TOP, Batch, Code, Desk, Library, Operation, Owner, Refused, Version, fields, interface, must, view, whole
 from places import compiler, linker, static_library
@@ -85,6 +85,9 @@ CALLS: "dict[str, Callable[[State], object]]" = {
     "desk_limits": lambda it: it.desk.limits(),
     "desk_weight": lambda it: it.desk.weight(),
     "desk_apply": lambda it: fields(it.desk.apply(it.batch)),
+    "desk_begin": lambda it: in_two_steps(it, it.desk.cancel),
+    "desk_finish": lambda it: fields(in_two_steps(it, it.desk.finish)),
+    "desk_cancel": lambda it: in_two_steps(it, it.desk.cancel),
     "desk_insert_columns": lambda it: insert_columns(it),
     "desk_hold": lambda it: it.made.append(it.desk.hold()),
     "desk_rebase": lambda it: it.desk.rebase(),
@@ -114,6 +117,12 @@ def append(batch: Batch, limit: Optional[int] = None) -> object:
     assert done == (4 if code == Code.OK else 0)
     must(code)
     return len(batch)
+
+
+def in_two_steps(state: State, end: "Callable[[], Any]") -> "Any":
+    """Makes the batch ready, and ends that."""
+    state.desk.begin(state.batch)
+    return end()
 
 
 def release_one_of_two(state: State) -> object:

@@ -7,7 +7,7 @@ use Rattle.graph_types.{specs.Parts.{names_after_all, kinds_after_all}, proofs.O
 use Rattle.vertex_names.specs.Book.{Book}
 use Rattle.graph_version.specs.Kept.{vertex_book, kind_book}
 use Rattle.graph_types.specs.{Refusals.IsLimitRefusal, declared.refusals.ApplyError.ApplyError}
-use Rattle.batch_apply.specs.Plan.{with_names, graph_by, IsUnplanned}
+use Rattle.batch_apply.specs.Plan.{with_names, graph_named, IsUnplanned}
 
 pub names_book : (ops : List NamedOp) (g : Graph) (old new : Book) → old ≡ vertex_book g
     → new ≡ with_names old (names_after_all ops old.names) → new ≡ vertex_book (after_all ops g)
@@ -21,7 +21,7 @@ kinds_book ops g old new was is = grind (arith, common_steps, kinds_of_all, limi
 pub plan_refused : (error : ApplyError) (ops : List NamedOp) (g : Graph) (names kinds : Book) → names ≡ vertex_book g
     → kinds ≡ kind_book g → IsUnplanned error ops names kinds → IsLimitRefusal error ops g
 plan_refused error ops g names kinds names_are kinds_are refused =
-    let by : Graph = graph_by names kinds in
+    let by : Graph = graph_named names kinds in
     let same_names : (after_all ops by).names ≡ (after_all ops g).names =
     sym (names_of_all ops by) ∙ ap (λ (b : Book). names_after_all ops b.names) names_are ∙ names_of_all ops g in
     let same_kinds : (after_all ops by).kinds ≡ (after_all ops g).kinds =
@@ -37,8 +37,8 @@ pub unplanned_all : (error : ApplyError) (ops rest : List NamedOp) (names kinds 
     → more_names.limit ≡ names.limit → more_kinds.limit ≡ kinds.limit
     → IsUnplanned error rest more_names more_kinds → IsUnplanned error ops names kinds
 unplanned_all error ops rest names kinds more_names more_kinds left_names left_kinds names_few kinds_few refused =
-    let later : Graph = graph_by more_names more_kinds in
-    let first : Graph = graph_by names kinds in
+    let later : Graph = graph_named more_names more_kinds in
+    let first : Graph = graph_named names kinds in
     let same_names : (after_all rest later).names ≡ (after_all ops first).names =
     sym (names_of_all rest later) ∙ left_names ∙ names_of_all ops first in
     let same_kinds : (after_all rest later).kinds ≡ (after_all ops first).kinds =

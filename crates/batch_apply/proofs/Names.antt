@@ -7,7 +7,7 @@ use Rattle.graph_types.{specs.Parts.{names_after, names_after_all, kinds_after_a
 use Rattle.graph_types.{specs.declared.refusals.ApplyError.TheVariants.{NamesFull, KindsFull}, proofs.OperationParts.{names_of_all, kinds_of_all}}
 use Rattle.graph_types.proofs.ListedNames.{kept, entered}
 use Rattle.vertex_names.specs.{Book.Book, declared.book.AddError.AddError}
-use Rattle.batch_apply.specs.{declared.resolve.Ends.Ends, Plan.{known, graph_by, IsRefusal, IsUnplanned}}
+use Rattle.batch_apply.specs.{declared.resolve.Ends.Ends, Plan.{known, graph_named, IsRefusal, IsUnplanned}}
 
 pub known_listed : (names : List (List ℕ)) (name : List ℕ) → IsTrue (is_listed names name)
     → Some (number_of names name) ≡ known names name
@@ -31,13 +31,13 @@ refused_all error old book ops k op step same limit refused = grind (arith, comm
 -- a refusal of a book is one of the batch, for the names, or for the kinds where the names fit
 pub unplanned_names : (ops : List NamedOp) (names kinds : Book) → names.limit < length (names_after_all ops names.names)
     → IsUnplanned NamesFull ops names kinds
-unplanned_names ops names kinds full = omega (arith, full, ap length (names_of_all ops (graph_by names kinds)))
+unplanned_names ops names kinds full = omega (arith, full, ap length (names_of_all ops (graph_named names kinds)))
 
 pub unplanned_kinds : (ops : List NamedOp) (names kinds : Book) → kinds.limit < length (kinds_after_all ops kinds.names)
     → length (names_after_all ops names.names) ≤ names.limit → IsUnplanned KindsFull ops names kinds
 unplanned_kinds ops names kinds full fit = (
-  omega (arith, full, ap length (kinds_of_all ops (graph_by names kinds))),
-  λ past. let same = ap length (names_of_all ops (graph_by names kinds)) in omega arith,
+  omega (arith, full, ap length (kinds_of_all ops (graph_named names kinds))),
+  λ past. let same = ap length (names_of_all ops (graph_named names kinds)) in omega arith,
 )
 
 -- and so is one of its names

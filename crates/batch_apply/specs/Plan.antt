@@ -92,8 +92,8 @@ IsRefusal NamesFull book names = book.limit < length names
 IsRefusal OutOfMemory book names = Unit {0}
 
 -- the graph of which books have the names and the kinds, with their limits and no edges
-abbrev pub graph_by : Book → Book → Graph
-graph_by names kinds =
+abbrev pub graph_named : Book → Book → Graph
+graph_named names kinds =
     record empty_graph {
       names = names.names;
       kinds = kinds.names;
@@ -102,4 +102,4 @@ graph_by names kinds =
 
 -- when a batch is not planned
 abbrev pub IsUnplanned : ApplyError → List NamedOp → Book → Book → Type 0
-IsUnplanned error ops names kinds = IsLimitRefusal error ops (graph_by names kinds)
+IsUnplanned error ops names kinds = IsLimitRefusal error ops (graph_named names kinds)

@@ -1,13 +1,16 @@
 -- A desk's owner: what is held stays counted, each number at one seat.
-use Rattle.std.proofs.Common.{◌≡◌, ℕ, zero, ◌<◌, ◌≤◌, true, false, List, length, replicate, ◌==◌, inl, inr, refl, sym, ap, subst}
-use Rattle.std.proofs.Common.{◌∙◌, arith}
+use Rattle.std.proofs.Common.{◌≡◌, ℕ, zero, ◌+◌, ◌<◌, ◌≤◌, true, false, List, [], ◌∷◌, length, replicate, ◌==◌, inl, inr, refl, sym, ap, subst}
+use Rattle.std.proofs.Common.{◌∙◌, length-append, arith}
 use Rattle.std.proofs.lemmas.{Bool.{eq-eqb, eqb-true, true≢false}, Grind.common_steps}
 use Rattle.std.proofs.lemmas.List.{get_or-set_same, get_or-set_other, get_or-replicate, length-replicate}
 use Rattle.std.proofs.Math.ListN.{length-set}
 use Rattle.std.specs.{Prelude.{slice_set}, declared.option.Option.{Option, TheVariants.{None, Some}}}
 use Rattle.block_reclamation.specs.{declared.copies.{Pin.Pin, TheConstants.SEATS}, Board.{BoardState, no_pins, with_pin}, Copies.{pin_at, settled, unsettled}}
 use Rattle.graph_types.proofs.ListPlaces.{set_twice}
-use Rattle.store_steps.specs.Desks.{DeskView}
+use Rattle.graph_types.specs.declared.batches.NamedOp.{NamedOp}
+use Rattle.store_steps.specs.{Acceptances.Accepts, Desks.DeskView}
+use Rattle.store_steps.proofs.AcceptedDesk.{batches_after}
+use Rattle.desk.specs.OwnedReady.{IsOwnedReady}
 use Rattle.desk.specs.Owned.{OwnedView, IsOwned, IsHoldCounted, IsSeatFor, count_at, held_pin, opened_owned, with_hold}
 
 opened_is_owned : (d : DeskView) (n : ℕ) → IsOwned (opened_owned d n)
@@ -101,6 +104,37 @@ pinned_owned o number seat count is for low some =
       | inl x ↦ is.apart b seat number within for.0 at_number x
       | inr x ↦ absurd (x.1 b within at_number)
     ])
+
+-- A batch
+
+later_counted : (a b count : ℕ) (pin : Option Pin) → a ≤ b → IsHoldCounted a pin count → IsHoldCounted b pin count
+later_counted a b count None more is = is
+later_counted a b count (Some pin) more is = let low = is.2 in (is.0, is.1, omega (arith, more, low))
+
+-- once a batch is accepted all is owned still
+pub accepted_owned : (o : OwnedView) (ops : List NamedOp) (new : DeskView) → IsOwned o → Accepts o.desk ops new
+    → IsOwned (record o { desk = new })
+accepted_owned o ops new is accepts =
+    let longer : length new.last.batches ≡ length o.desk.last.batches + 1 =
+    ap length (batches_after o.desk new ops accepts) ∙ length-append o.desk.last.batches (ops ∷ []) in
+    let low = is.floor_low in
+    record {
+      pins = is.pins;
+      seats = is.seats;
+      floor_low = omega (arith, low, longer);
+      counted = λ seat within. later_counted (length o.desk.last.batches) (length new.last.batches) (count_at o.counts seat)
+          (pin_at o.board.pins seat) (omega (arith, longer)) (is.counted seat within);
+      apart = is.apart;
+    }
+
+-- a batch that is ready at the desk of an owner
+pub ready_owned : (o : OwnedView) (old new : DeskView) (ops batch : List NamedOp) → old ≡ o.desk → ops ≡ batch → IsOwned o
+    → Accepts o.desk batch new → IsOwnedReady (record { old = record o { desk = old }; ops = ops; new = new })
+ready_owned o old new ops batch desk same is accepts =
+    let before : IsOwned (record o { desk = old }) = subst (λ d. IsOwned (record o { desk = d })) (sym desk) is in
+    let accepted : Accepts old ops new =
+    subst (λ b. Accepts old b new) (sym same) (subst (λ d. Accepts d batch new) (sym desk) accepts) in
+    record { before = before; after = accepted_owned (record o { desk = old }) ops new before accepted; accepted = accepted }
 
 -- The board
 

@@ -7,6 +7,7 @@ pub mod Tables
 pub mod Openings
 pub mod Owned
 pub mod Machine
+pub mod OwnedReady
 pub mod Ready
 pub mod Refusals
 pub mod Told

@@ -4,7 +4,7 @@
 //! A batch is applied in two steps: [`Desk::begin`] plans it and makes the next version, with all the memory that its
 //! acceptance takes; [`Ready::finish`] accepts it, or [`Ready::cancel`] leaves the desk of before. Who has workers for it begins
 //! with [`Desk::begin_at_once`]. [`OwnedDesk`] is a desk for one owner, who holds versions by their
-//! numbers.
+//! numbers; its batches have the same two steps, by [`OwnedDesk::begin`] and [`OwnedReady`].
 //!
 //! The store is STINGER's (Ediger, McColl, Riedy, Bader; IEEE HPEC 2012) with held versions as Aspen has them (Dhulipala,
 //! Blelloch, Shun; PLDI 2019).
@@ -21,6 +21,7 @@ mod last;
 mod laws;
 mod moves;
 mod owned;
+mod owned_ready;
 mod ready;
 mod reopening;
 mod seats;
@@ -35,5 +36,6 @@ pub use errors::{HoldError, OpenError, ReleaseError};
 pub use graph_types::ApplyError;
 pub use laws::law_owned_desk;
 pub use owned::{Held, Hold, OwnedDesk};
+pub use owned_ready::OwnedReady;
 pub use ready::{Accepted, Ready};
 pub use zero::Zero;

@@ -16,7 +16,7 @@ ghost use Rattle.store_steps.specs.Opening.{IsVersionZero, opened_desk};
 ghost use Rattle.store_steps.specs.Acceptances.{Accepts};
 ghost use Rattle.store_steps.specs.Shown.{ShowsWorld};
 ghost use Rattle.store_steps.specs.Steps.{SimulatesAt, recycling};
-ghost use Rattle.desk.specs.Owned.{opened_owned, HoldsOnce, RefusesHold, IsReleased, RefusesRelease, copied};
+ghost use Rattle.desk.specs.Owned.{IsOwned, opened_owned, HoldsOnce, RefusesHold, IsReleased, RefusesRelease, copied};
 ghost use Rattle.desk.specs.Owned.{IsSeatFor, IsSeatOf, ReleasesOnce, count_at, held_pin, with_hold};
 ghost use Rattle.desk.specs.Openings.{OpensWith};
 ghost use Rattle.desk.specs.Machine.{Follows, FollowsBatch, FollowsHold, FollowsRelease, HeldAreSnapshots, LeavesHeldBlocks};
@@ -25,6 +25,7 @@ ghost use Rattle.desk.specs.Refusals.{Refuses, IsWithin};
 
 use crate::desks::{Collected, Desk};
 use crate::errors::{HoldError, ReleaseError};
+use crate::owned_ready::OwnedReady;
 use crate::ready::Accepted;
 use crate::seats::seat_with;
 use crate::zero::Zero;
@@ -142,6 +143,46 @@ impl OwnedDesk {
         ensures unchanged { OnErr result (self.new ≡ self.old) }
     {
         self.desk.apply(batch)
+    }
+
+    /// Makes a batch ready, by the caller alone; or refuses it, and gives the desk back as it was, as [`Desk::begin`] does.
+    ///
+    /// ```
+    /// let desk = match desk.begin(batch) {
+    ///     Ok(ready) => ready.finish().0,
+    ///     Err((desk, _error)) => desk,
+    /// };
+    /// ```
+    pub fn begin(self, batch: Arc<Batch>) -> Result<OwnedReady, (OwnedDesk, ApplyError)>
+        ensures begun { IfOk result (λ r. (r.old ≡ self) × (r.ops ≡ batch_value batch)) }
+        ensures accepts { IfOk result (λ r. Accepts self.desk (batch_value batch) r.new) }
+        ensures within { OnOk result (IsWithin self.desk.last (count_by is_free self.desk.pool) (batch_value batch)) }
+        ensures refused { IfErr result (λ e. Refuses self.desk.last (count_by is_free self.desk.pool) (batch_value batch) e.1) }
+        ensures unchanged { IfErr result (λ e. e.0 ≡ self) }
+    {
+        let OwnedDesk {
+            desk,
+            board,
+            counts,
+            opening,
+        } = self;
+        match desk.begin(batch) {
+            Ok(ready) => Ok(OwnedReady::of(ready, board, counts, opening)),
+            Err((desk, error)) => Err((OwnedDesk::with(desk, board, counts, opening), error)),
+        }
+    }
+
+    /// The desk of an owner, with what is held.
+    pub(crate) fn with(desk: Desk, board: Board, counts: [u64; SEATS], opening: u64) -> OwnedDesk
+        requires { IsOwned (record { desk = desk; board = board; counts = counts; opening = opening }) }
+        ensures { result ≡ record { desk = desk; board = board; counts = counts; opening = opening } }
+    {
+        OwnedDesk {
+            desk,
+            board,
+            counts,
+            opening,
+        }
     }
 
     /// Recycles each retired block that no version held needs, and raises the board's floor. It takes no memory.
@@ -276,6 +317,7 @@ impl OwnedDesk {
         requires { OpensWith (length self.old.desk.pool) zero }
         ensures opened { OnOk result (self.new
             ≡ opened_owned (opened_desk (length self.old.desk.pool) (arc_value {X = Version} zero.version)) (self.old.opening + 1)) }
+        ensures starts { OnOk result (ShowsMachineStart self.new) }
         ensures unchanged { OnErr result (self.new ≡ self.old) }
     {
         let Some(next) = self.opening.checked_add(1) else {

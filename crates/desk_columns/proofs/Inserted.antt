@@ -13,7 +13,7 @@ use Rattle.batch_columns.specs.Dictionaries.{Insertions, insertion, insertion_at
 use Rattle.batch_columns.proofs.OneMore.{joined_parts}
 use Rattle.desk_counts.specs.{declared.counts.Counts.Counts, Counted.with_outcomes}
 use Rattle.desk_columns.specs.Feeding.{are_alike_columns, batch_length, AreIn, AreIn.Begin, BearsParts, CollectsFor, Collects, ComesBefore, IsFeedApplied}
-use Rattle.desk_columns.specs.Feeding.{IsTried, MayCollect, RefusesNext, RefusesFeed, RefusesRest, TakesFeed, TakesNext}
+use Rattle.desk_columns.specs.Feeding.{IsTried, MayCollect, RefusesNext, RefusesFed, RefusesRest, TakesFeed, TakesNext}
 use Rattle.desk_columns.specs.declared.columns.InsertColumnsError.{InsertColumnsError}
 use Rattle.desk_columns.specs.declared.columns.InsertColumnsError.TheVariants.{BadLength, BadInsertion, Refused, OutOfMemory}
 
@@ -62,7 +62,7 @@ taken_of old behind new counts counted ops a tried counted_is collects = record 
 }
 
 pub refused_of : (old new : OwnedView) (ops : List NamedOp) (error : ApplyError) → IsTried old ops (Err error) new
-    → RefusesFeed old ops error new
+    → RefusesFed old ops error new
 refused_of old new ops error tried =
     let same : tried.from ≡ new = sym tried.applied.unchanged in (
       subst (λ (o : OwnedView). ComesBefore (Err error) ops old o) same tried.collected,

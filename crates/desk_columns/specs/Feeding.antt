@@ -82,8 +82,8 @@ pub record TakesFeed (old : OwnedView) (counts : Counts) (ops : List NamedOp) (n
   pub collects : Collects behind new
 
 -- a batch is refused, and no more than a collection was done for it; by its blocks only where too few are free after one
-abbrev pub RefusesFeed : OwnedView → List NamedOp → ApplyError → OwnedView → Type 0
-RefusesFeed old ops error new =
+abbrev pub RefusesFed : OwnedView → List NamedOp → ApplyError → OwnedView → Type 0
+RefusesFed old ops error new =
     ComesBefore (Err error) ops old new × Refuses new.desk.last (count_by is_free new.desk.pool) ops error
 
 -- of so many insertions from a place on, the first that is refused
@@ -128,7 +128,7 @@ abbrev pub RefusesBatch : ℕ → Insertions → ℕ → OwnedView → InsertCol
 RefusesBatch parts c at old BadLength new = ⊥
 RefusesBatch parts c at old (BadInsertion error) new = IsFirstRefusedRow c at (batch_length parts c at) error × (new ≡ old)
 RefusesBatch parts c at old (Refused error) new =
-    (ops : List NamedOp) × (insertions_from c at (batch_length parts c at) ≡ Some ops) × RefusesFeed old ops error new
+    (ops : List NamedOp) × (insertions_from c at (batch_length parts c at) ≡ Some ops) × RefusesFed old ops error new
 RefusesBatch parts c at old OutOfMemory new = new ≡ old
 
 -- whether a refusal says no more than that memory ran out

@@ -196,7 +196,7 @@ fn is_out_of_memory(error: InsertColumnsError) -> bool
 }
 
 /// Applies the next insertions, and tells how many: in a batch of several parts where the desk bears it, and else of one part. Once
-/// a batch of several parts was refused, but not because memory ran out, `is_small` says that all others have one part, so that as many
+/// a batch of several parts was refused, and not because memory ran out, `is_small` says that all others have one part, so that as many
 /// insertions as can be are in before one that is refused.
 fn insert_next(
     alloc: Global,

@@ -15,7 +15,7 @@ use Rattle.store_handles.specs.declared.held.Held.TheVariants as held
 use Rattle.misteluk_c.specs.declared.desks.{DeskStat.DeskStat, HoldNumbers.HoldNumbers}
 use Rattle.misteluk_c.specs.Held.{held_version_of, batch_in, MakesHeld}
 
--- the desk that a handle holds, and the identity that this desk's holds have
+-- the desk that a handle holds, and the identity that this desk's holds have, also while a batch is ready at it
 abbrev pub held_desk : Option Held → Option OwnedView
 held_desk None = None
 held_desk (Some (held.Desk desk identity)) = Some desk
@@ -24,6 +24,7 @@ held_desk (Some _) = None
 abbrev pub identity_in : Option Held → ℕ
 identity_in None = 0
 identity_in (Some (held.Desk desk identity)) = identity
+identity_in (Some (held.Ready ready identity)) = identity
 identity_in (Some _) = 0
 
 abbrev pub apply_code : ApplyError → ℕ

@@ -2,4 +2,5 @@ pub mod Codes
 pub mod Held
 pub mod Desks
 pub mod Opening
+pub mod Phases
 pub mod Columns

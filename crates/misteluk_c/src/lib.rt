@@ -13,6 +13,7 @@ mod codes;
 mod desks;
 mod inserting;
 mod opening;
+mod phases;
 #[cfg(test)]
 mod tests;
 mod versions;
@@ -20,7 +21,7 @@ mod versions;
 /// The number of the interface that the header declares.
 #[unsafe(no_mangle)]
 pub extern "C" fn misteluk_interface() -> u32
-    ensures { result ≡ 2 }
+    ensures { result ≡ 3 }
 {
-    2
+    3
 }

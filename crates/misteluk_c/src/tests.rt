@@ -15,6 +15,7 @@ use crate::opening::{
     DeskLimits, misteluk_desk_limits, misteluk_desk_new, misteluk_desk_new_within,
     misteluk_desk_new_within_weight, misteluk_desk_weight,
 };
+use crate::phases::{misteluk_desk_begin, misteluk_desk_cancel, misteluk_desk_finish};
 use crate::versions::{
     misteluk_version_clone, misteluk_version_cores, misteluk_version_degrees,
     misteluk_version_edge, misteluk_version_edges, misteluk_version_free, misteluk_version_kind,
@@ -138,6 +139,10 @@ fn apply(alloc: Global, batch: &mut Handle, desk: &mut Handle, version: &mut Han
         misteluk_desk_hold(alloc, desk, version, &mut hold),
         misteluk_desk_release(alloc, desk, &hold),
         misteluk_desk_rebase(alloc, desk),
+        misteluk_desk_begin(alloc, desk, batch),
+        misteluk_desk_cancel(alloc, desk),
+        misteluk_desk_begin(alloc, desk, batch),
+        misteluk_desk_finish(alloc, desk, &mut counts),
     ];
     sum(&codes)
 }

@@ -1,6 +1,6 @@
 //! What is held.
 
-use desk::OwnedDesk;
+use desk::{OwnedDesk, OwnedReady};
 use graph_types::Batch;
 use graph_version::Version;
 use std::sync::Arc;
@@ -10,6 +10,8 @@ use std::sync::Arc;
 pub enum Held {
     /// A desk, and the identity that its holds have.
     Desk { desk: OwnedDesk, identity: u64 },
+    /// A desk at which a batch is ready, and its identity.
+    Ready { ready: OwnedReady, identity: u64 },
     Batch(Batch),
     /// A batch that a desk refused, which had shared it.
     Shared(Arc<Batch>),

@@ -7,7 +7,7 @@ from typing import Any, Callable, Dict, List, Tuple, Union
 # Where an array or a text begins: its address, bytes that are only read, or an array of ctypes.
 Memory = Union[int, bytes, "Array[Any]"]
 
-INTERFACE = 2
+INTERFACE = 3
 ANY_KIND = 0xFFFF_FFFF
 NOT_REACHED = 0xFFFF_FFFF
 INSERT = 0
@@ -142,6 +142,9 @@ FUNCTIONS: Dict[str, Tuple[Any, List[Any]]] = {
     "desk_weight": (c_uint32, [POINTER(Desk), POINTER(c_uint64)]),
     "desk_free": (None, [Desk]),
     "desk_apply": (c_uint32, [POINTER(Desk), POINTER(Batch), POINTER(Counts)]),
+    "desk_begin": (c_uint32, [POINTER(Desk), POINTER(Batch)]),
+    "desk_finish": (c_uint32, [POINTER(Desk), POINTER(Counts)]),
+    "desk_cancel": (c_uint32, [POINTER(Desk)]),
     "desk_insert_columns": (c_uint32, [POINTER(Desk), c_void_p, c_size_t, c_void_p, c_size_t, c_void_p, c_size_t, c_void_p,
         c_size_t, c_void_p, c_size_t, c_void_p, c_size_t, c_void_p, c_size_t, POINTER(Counts), POINTER(c_uint64)]),
     "desk_collect": (c_uint32, [POINTER(Desk), POINTER(c_uint64)]),
@@ -191,6 +194,9 @@ class Library:
     desk_weight: Callable[[Desk, c_uint64], int]
     desk_free: Callable[[Desk], None]
     desk_apply: Callable[[Desk, Batch, Counts], int]
+    desk_begin: Callable[[Desk, Batch], int]
+    desk_finish: Callable[[Desk, Counts], int]
+    desk_cancel: Callable[[Desk], int]
     desk_insert_columns: Callable[[Desk, Memory, int, Memory, int, Memory, int, Memory, int, Memory, int, Memory, int,
         Memory, int, Counts, c_uint64], int]
     desk_collect: Callable[[Desk, c_uint64], int]

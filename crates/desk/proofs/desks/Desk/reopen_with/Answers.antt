@@ -36,9 +36,9 @@ is_opened c = λ i. record {
 pub returns : goal.returns
 returns c = is_opened (goal.at.returns c).After-of
 
-pub invariant_of-self-2 : goal.invariant_of-self-2
-invariant_of-self-2 c =
-    let b = (goal.at.invariant_of-self-2 c).After-of in
+pub invariant_of-self : goal.invariant_of-self
+invariant_of-self c =
+    let b = (goal.at.invariant_of-self c).After-of in
     let blocks = length c.args.self.now.pool in
     kept_same (opened_desk blocks (zero b)) (new b) _ _ 0 _
     (opened_kept blocks (zero b) c.requires.version
