@@ -33,11 +33,7 @@ pub extern "C" fn misteluk_desk_begin(alloc: Global, desk: &mut Handle, batch: &
 
 /// Accepts the batch that is ready at a desk.
 #[unsafe(no_mangle)]
-pub extern "C" fn misteluk_desk_finish(
-    alloc: Global,
-    desk: &mut Handle,
-    counts: &mut Counts,
-) -> u32
+pub extern "C" fn misteluk_desk_finish(alloc: Global, desk: &mut Handle, counts: &mut Counts) -> u32
     ensures told { Asks (held_ready desk.old.held) result (λ r. TellsFinish r desk.new.held result counts.new) }
     ensures identity { identity_in desk.new.held ≡ identity_in desk.old.held }
     ensures same { result ≡ 2 → (desk.new.held ≡ desk.old.held) × (counts.new ≡ counts.old) }
