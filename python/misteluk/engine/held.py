@@ -77,6 +77,9 @@ class Answers:
         self._found: "Dict[object, Sequence[array[int]]]" = {}
         self._lock = threading.Lock()
 
+    def __len__(self) -> int:
+        return len(self._found)
+
     def get(self, asked: object) -> "Optional[Sequence[array[int]]]":
         with self._lock:
             found = self._found.pop(asked, None)
@@ -268,6 +271,7 @@ class LibraryVersion:
         return self._table("cores", "I", scope)[0]
 
     def levels(self, scope: Scope, source: str) -> "Tuple[Sequence[int], array[int]]":
+        self._view(scope)  # (where neither kind nor vertex is there, the kind is told)
         found = self._table("levels", "I", scope, self._vertex(source))[0]
         reached = [at for at, it in enumerate(found) if it != interface.NOT_REACHED]
         return reached, found if len(reached) == len(found) else array("I", map(found.__getitem__, reached))
