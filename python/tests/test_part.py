@@ -154,7 +154,7 @@ class Clusters(Case):
     @unittest.skipUnless(optional("pandas"), "pandas is not there")
     def test_the_page_s_examples(self):
         text = PAGE.read_text(encoding="utf-8")
-        self.assertEqual(self.run_examples(text), 15)
+        self.assertEqual(self.run_examples(text), 12)
         self.assertRaises(AssertionError, self.run_examples, text.replace("    4\n", "    5\n"))
 
     def run_examples(self, text):
