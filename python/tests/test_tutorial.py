@@ -229,13 +229,6 @@ class Figures(unittest.TestCase):
         self.assertEqual(told, {it: left[it] for it in {end for _, *ends, _ in rows for end in ends}})
         self.assertEqual(told["kassel"], 0)
 
-    def test_what_depends_on_x(self):
-        """What depends on a package is reached against what it needs."""
-        needed = [(it["needs"], it["package"]) for it in read("debian.csv") if it["kind"] == "depends"]
-        told = re.search(r"levels\(\"libsemanage2\".*\n    (\{.*\})\n", self.text)[1]
-        self.assertEqual(ast.literal_eval(told), reached(needed, "libsemanage2"))
-        self.told(str(sorted({b for a, b in needed if a == "adduser"})))
-
     def test_the_pages(self):
         """What the two pages count, by dicts of edges before and after; weights tell what changed."""
         before, after = Counter(), Counter()
