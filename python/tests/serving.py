@@ -11,7 +11,7 @@ import unittest
 from typing import Any, Dict, NamedTuple, Optional
 
 from described import wrong
-from support import HERE, Case, optional
+from support import HERE, IN_PROCESS, IS_SERVED, Case, optional
 
 import misteluk
 from misteluk.serve.limits import ServerLimits
@@ -49,6 +49,11 @@ class Clock:
 @unittest.skipUnless(HAS_PACKAGES, NO_PACKAGES)
 class ServeCase(Case):
     """A case with a server."""
+
+    def setUp(self) -> None:
+        super().setUp()
+        if IS_SERVED:
+            self.skipTest(IN_PROCESS)
 
     def serve(self, listen: str = "127.0.0.1:0", token: Optional[str] = None, limits: ServerLimits = ServerLimits(),
               batches: Optional[int] = None, people: Optional[People] = None, **options: Any) -> Server:

@@ -119,8 +119,8 @@ class Meanwhile:
     def only_closed(self, opened, close):
         told = self.closed_meanwhile(opened, close)
         self.assertEqual({kind: names[:3] for kind, names in told.items() if kind not in (True, "closed")}, {})
-        self.assertGreater(len(told[True]), 10)
-        self.assertGreater(len(told["closed"]), 10)
+        self.assertGreater(len(told[True]), 0)
+        self.assertGreater(len(told["closed"]), 0)
 
 
 class Closing(Meanwhile, Case):

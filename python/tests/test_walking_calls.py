@@ -9,6 +9,7 @@ from interrupting import at_line
 from support import IS_SERVED, Case, optional
 
 import misteluk
+from misteluk.engine.held import Answers
 from misteluk import Edge, Neighbor, Store
 
 pandas = optional("pandas")
@@ -171,7 +172,7 @@ class Calls(Case):
         while len(wrong) < 3:
             try:
                 if not IS_SERVED:  # (it would have the answers already)
-                    session.held.kept.degrees = None
+                    session.held.kept.answers = Answers()
                 if not at_line(at, call):
                     break
                 if (call(), list(session.edges())) != (right, edges):

@@ -4,13 +4,13 @@ use super::batches::batch_named;
 use super::checks::{check_so, check_told};
 use super::texts::{push_item, push_numbers, split_at, split_word};
 use super::told::{push_collected, push_done, push_journal, push_stat};
-use desk::{ApplyError, Desk, Hold, OwnedDesk, Zero};
+use desk::{ApplyError, Desk, Hold, OwnedDesk};
 use std::alloc::{AllocError, Global};
 use std::process::Abort;
 use std::sync::Arc;
 
 /// A hold and a release are told by the number of the opening and that of the version.
-const PLAYS: [&str; 5] = [
+const PLAYS: [&str; 4] = [
     "apply to b => 1 i
 hold => 0 1
 # The same number once more takes no further seat. What the second batch replaced stays until both holds are released.
@@ -83,21 +83,6 @@ release 1 0 => released
 collect => 1 1 0
 rebase => 2
 stat => 0 3 2 47 0 1",
-    "apply to b => 1 i
-hold => 0 1
-apply to c => 2 i
-# The desk begins anew with what another one holds, in as many blocks. What it had is gone, but for the version that is held.
-over mixed => 1
-stat => 0 3 2 46 0 2
-journal => 0
-release 0 1 => released
-release 1 0 => no version of this number is held
-hold => 1 0
-apply to b => 1 u
-collect => 0 0 1
-release 1 0 => released
-collect => 1 1 0
-stat => 1 3 2 46 0 2",
     "apply 2046 sources => 2046 blocks are needed and 48 are free
 stat => 0 0 0 48 0 0
 journal => 0
@@ -141,26 +126,6 @@ fn tell_rebase(desk: &mut OwnedDesk, text: &mut String) -> Result<(), AllocError
     push_numbers(text, &[desk.opening()])
 }
 
-/// Opens the desk anew over what another one holds after a batch.
-fn tell_over(
-    alloc: Global,
-    desk: &mut OwnedDesk,
-    name: &str,
-    text: &mut String,
-) -> Result<(), AllocError> {
-    let mut other = Desk::open(alloc, 16)?;
-    let batch = Arc::new(alloc, batch_named(alloc, name)?)?;
-    if let Err(error) = other.apply(batch) {
-        return push_item(text, error, "");
-    }
-    let blocks = desk.desk().blocks();
-    if other.last().block_count() > blocks as usize {
-        return text.push_str("too many blocks");
-    }
-    desk.reopen_with(Zero::over(alloc, blocks, other.last())?)?;
-    push_numbers(text, &[desk.opening()])
-}
-
 /// What a refusal is to leave: the counts, the journal, and how often the desk was opened anew.
 fn push_kept(text: &mut String, desk: &OwnedDesk) -> Result<(), AllocError> {
     push_stat(text, desk.desk().stat())?;
@@ -184,7 +149,6 @@ pub(super) fn tell(
         "stat" => push_stat(text, desk.desk().stat()),
         "journal" => push_journal(text, desk.desk().journal()),
         "kept" => push_kept(text, desk),
-        "over" => tell_over(alloc, desk, rest, text),
         _ => tell_rebase(desk, text),
     }
 }

@@ -8,8 +8,8 @@ use std::alloc::Global;
 use std::io::Print;
 use std::process::Abort;
 
-/// A version is held twice and let go; a desk begins anew; and a desk begins with what another one holds.
-const PLAYS: [&str; 3] = [
+/// A version is held twice and let go; and a desk begins anew.
+const PLAYS: [&str; 2] = [
     "apply to b => 1 i
 hold => 0 1
 hold => 0 1
@@ -30,10 +30,6 @@ apply to b => 1 u
 collect => 0 0 1
 release 1 0 => released
 collect => 1 1 0",
-    "apply to b => 1 i
-over mixed => 1
-stat => 0 3 2 46 0 2
-apply to b => 1 u",
 ];
 
 /// A text has room for what a line tells, so that no line is done whose telling is refused.
