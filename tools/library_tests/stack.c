@@ -50,7 +50,7 @@ static void batch_columns(void) { fill(0); }
 static void batch_columns_within(void) { fill(VERTICES); }
 static void batch_expire(void) { code = misteluk_batch_expire(&batch, 1); }
 static void apply(void) { code = misteluk_desk_apply(&desk, &batch, &counts); }
-static void begin(void) { code = misteluk_desk_begin(&desk, &filled); }
+static void begin(void) { code = misteluk_desk_begin(&desk, &batch); }
 static void finish(void) { code = misteluk_desk_finish(&desk, &counts); }
 static void cancel(void) { code = misteluk_desk_cancel(&desk); }
 static void insert_columns(void)
@@ -165,11 +165,11 @@ int main(void)
     for (int it = 0; it < BATCH - 1; it++)
         batch_insert();
     measure("batch_insert", batch_insert);
-    measure("desk_apply", apply);
     measure("desk_begin", begin);
     measure("desk_cancel", cancel);
     begin();
     measure("desk_finish", finish);
+    measure("desk_apply", apply);
     measure("desk_stat", stat);
     measure("desk_hold", hold_last);
     measure("version_clone", clone_it);
