@@ -184,13 +184,14 @@ void misteluk_desk_free(misteluk_desk desk);
 /* Applies a batch, operation after operation, and empties it. NO_HANDLE, BATCHES_FULL, NAMES_FULL, KINDS_FULL, BLOCKS_FULL in
  * this order, or MEMORY; the desk and the batch are as they were then. */
 uint32_t misteluk_desk_apply(misteluk_desk *desk, misteluk_batch *batch, misteluk_counts *counts);
-/* The same in two steps, for a caller who writes a log before anybody sees the version. `begin` makes a batch ready: it meets every
- * refusal, and takes all the memory that the batch needs; the batch stays in its handle. The handle of the desk then holds the desk
- * with the batch that is ready: `finish` accepts the batch, and can't be refused; `cancel` leaves the desk of before, takes no
- * memory and can't be refused either. Until then each other call says NO_HANDLE to this desk, but for `misteluk_desk_free`, which
- * ends it. Versions that are held answer on. `begin`: the codes of `apply`. `finish`, `cancel`: NO_HANDLE where no batch is ready. */
+/* Makes a batch ready, for a caller who writes a log before anybody sees the version: it meets every refusal, and takes all the
+ * memory that the batch needs; the batch stays in its handle. The handle of the desk then holds the desk together with the batch
+ * that is ready, and each other call but `finish`, `cancel` and `free` says NO_HANDLE to it. Versions that are held answer on.
+ * The codes of `apply`. */
 uint32_t misteluk_desk_begin(misteluk_desk *desk, misteluk_batch *batch);
+/* Accepts the batch that is ready, and tells what became of its operations. NO_HANDLE where none is ready. */
 uint32_t misteluk_desk_finish(misteluk_desk *desk, misteluk_counts *counts);
+/* Gives up the batch that is ready: the desk is the one of before. It takes no memory. NO_HANDLE where none is ready. */
 uint32_t misteluk_desk_cancel(misteluk_desk *desk);
 /* Applies insertions of one kind, whose vertices are numbers in a dictionary of names: the name of number n are the bytes of `text`
  * from ends[n - 1], or from 0, to below ends[n]. A batch, and so a version, has as many times 4,096 of them as there are free

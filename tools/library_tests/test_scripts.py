@@ -137,7 +137,7 @@ class Play:
         return f"{line} exp={told.expired}" if self.expires else line
 
     def load(self) -> None:
-        """Insertions in columns, which are a batch; before it the library collects where too few blocks are free."""
+        """Insertions in columns, which are a batch. The library collects after it, and before it where too few blocks are free."""
         names = self.random.sample(NAMES, 6)
         rows = [(self.random.randrange(6), self.random.randrange(6), self.random.randrange(-9, 99), self.random.randrange(99))
                 for _ in range(self.random.randrange(1, 60))]
@@ -155,6 +155,9 @@ class Play:
         line = f"commit v={told.version} ins={told.inserted} upd={told.updated} rem=0 abs=0 ovf=0"
         assert done == (len(rows) if code == Code.OK else 0)
         self.lines.append(line if code == Code.OK else f"error {len(self.records)} {WORDS[code]}")
+        if code == Code.OK:
+            self.record("collect")
+            self.lines.append(None)
 
     def open(self) -> int:
         slot = next(it for it in range(SEATS) if it not in self.slots)
