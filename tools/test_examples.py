@@ -82,7 +82,7 @@ class Named(unittest.TestCase):
             shutil.copy(TOP / it, self.room / it)
         self.script("bin/python3", f'[ "$1" = -m ] || exec {sys.executable} "$@"; {noted}')
         path = path or f"{self.room}/bin:{os.environ['PATH']}"
-        env = {**os.environ, "PATH": path, **{f"MISTELUK_{it}": "/other" for it in ("PROGRAM", "LIBRARY", "ENGINE")}}
+        env = {**os.environ, "PATH": path, **{f"MISTELUK_{it}": "/other" for it in ("PROGRAM", "LIBRARY")}}
         return subprocess.run([self.room / "check", *words], env=env, stdout=subprocess.PIPE, stderr=subprocess.STDOUT, text=True,
                               timeout=60)
 

@@ -137,7 +137,7 @@ class Play:
         return f"{line} exp={told.expired}" if self.expires else line
 
     def load(self) -> None:
-        """Insertions in columns, which are a batch. The library collects after it, and before it where too few blocks are free."""
+        """Insertions in columns, which are a batch. The library collects after it, and before it if too few blocks are free."""
         names = self.random.sample(NAMES, 6)
         rows = [(self.random.randrange(6), self.random.randrange(6), self.random.randrange(-9, 99), self.random.randrange(99))
                 for _ in range(self.random.randrange(1, 60))]

@@ -1,7 +1,6 @@
 """A version that a handle of the library holds, and what it answers."""
 from __future__ import annotations
 
-import threading
 import weakref
 from array import array
 from bisect import bisect_left
@@ -71,31 +70,28 @@ class Row:
 
 class Answers:
     """Tables that were asked for, by what was asked: the latest ones, as long as they have at most `MOST_KEPT` bytes, or the last
-    one."""
+    one. It has no lock, which an interrupt could leave behind: what a thread misses meanwhile is asked for again."""
 
     def __init__(self) -> None:
         self._found: "Dict[object, Sequence[array[int]]]" = {}
-        self._lock = threading.Lock()
 
     def __len__(self) -> int:
         return len(self._found)
 
     def get(self, asked: object) -> "Optional[Sequence[array[int]]]":
-        with self._lock:
-            found = self._found.pop(asked, None)
-            if found is not None:
-                self._found[asked] = found  # (as the latest one)
-            return found
+        found = self._found.pop(asked, None)
+        if found is not None:
+            self._found[asked] = found  # (as the latest one)
+        return found
 
     def put(self, asked: object, columns: "Sequence[array[int]]") -> None:
-        with self._lock:
-            self._found[asked] = columns
-            sizes = {key: sum(len(it) * it.itemsize for it in found) for key, found in self._found.items()}
-            left = sum(sizes.values())
-            for key in list(sizes)[:-1]:
-                if left > MOST_KEPT:
-                    left -= sizes[key]
-                    del self._found[key]
+        self._found[asked] = columns
+        sizes = {key: sum(len(it) * it.itemsize for it in found) for key, found in list(self._found.items())}
+        left = sum(sizes.values())
+        for key in list(sizes)[:-1]:
+            if left > MOST_KEPT:
+                left -= sizes[key]
+                self._found.pop(key, None)
 
 
 class Kept:
