@@ -11,8 +11,6 @@ mod handed;
 mod journals;
 mod learnt;
 mod limits;
-mod owned;
-mod owned_refused;
 mod places;
 mod players;
 mod plays;
