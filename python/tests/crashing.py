@@ -4,6 +4,7 @@ raises `AssertionError` for the first file that isn't as it is promised, and cou
 The test runs a few of each, and `tools/try-journal` many.
 """
 import collections
+import contextlib
 import os
 import random
 import shutil
@@ -232,5 +233,63 @@ def full_disks(room, shim, numbers, width=6):
             assert done.returncode == 0, done.stderr
             found["told" if int(done.stdout) else "not met"] += 1
             assert is_as_fed(here / "graph.db", Model(), found)[0] == 25
+        shutil.rmtree(here)
+    return dict(found)
+
+
+def unsynced(path, count=25):
+    """Feeds a store whose syncs fail from one on, by shim.c, until it is told so: then nothing more goes in, and sessions answer
+    as before. (In a process of its own; prints the last version that was acknowledged.)"""
+    model = Model()
+    with Store(path) as store:
+        for number in range(1, count + 1):
+            try:
+                assert put(store, batch(number), producer="feed", sequence=number).version == number
+            except JournalFault as fault:
+                assert "a sync failed" in str(fault), fault
+                refuses(store, model, number)
+                break
+            model.upto(number)
+            if number % 8 == 0:
+                with contextlib.suppress(JournalFault):
+                    store.file.compact(history=8)
+    print(model.version)
+
+
+def refuses(store, model, number):
+    """Asserts that a store whose sync failed takes nothing more, and is as it was."""
+    for again in (number, number + 1):
+        assert told(store) == model.told(), "the store isn't as it was"
+        store.discard()
+        try:
+            put(store, batch(again), producer="feed", sequence=again)
+        except JournalFault as fault:
+            assert "a sync failed" in str(fault), fault
+        else:
+            raise AssertionError("a batch went in after a sync that failed")
+    store.discard()
+
+
+def failed_syncs(room, shim, numbers):
+    """EIO at the sync of each number, and all that come after it. What was acknowledged is there at the next opening, which goes
+    on; the batch whose sync failed is in or not, and its repeat goes in once."""
+    found = collections.Counter()
+    for number in numbers:
+        here = room / f"unsynced-{number}"
+        here.mkdir()
+        words = [sys.executable, "-c", "import sys, crashing; crashing.unsynced(sys.argv[1])", str(here / "graph.db")]
+        done = subprocess.run(words, cwd=HERE, stdout=subprocess.PIPE, stderr=subprocess.PIPE, text=True,
+                              env={**os.environ, "LD_PRELOAD": str(shim), "SHIM_FROM": str(here), "SHIM_SYNC": str(number)})
+        if done.returncode:
+            assert "JournalFault" in done.stderr.splitlines()[-1], done.stderr
+            found["the opening was refused"] += 1
+        else:
+            with Store(here / "graph.db", sync="off") as store:
+                version, last = store.stat().version, int(done.stdout)
+                assert last <= version <= last + 1, f"{last} were acknowledged, and {version} are there"
+                found["not met" if last == 25 else "is there" if version > last else "isn't there"] += 1
+                assert put(store, batch(last + 1), producer="feed", sequence=last + 1).version == last + 1
+                assert told(store) == Model().upto(last + 1).told()
+            assert check(here / "graph.db").faults == []
         shutil.rmtree(here)
     return dict(found)

@@ -224,9 +224,9 @@ class Writers(JournalCase):
     def test_a_later_form(self):
         self.fed(1).close()
         with contextlib.closing(sqlite3.connect(self.path)) as opened:
-            opened.execute("UPDATE meta SET value=2 WHERE name='form'")
+            opened.execute("UPDATE meta SET value=3 WHERE name='form'")
             opened.commit()
-        with self.assertRaisesRegex(JournalFault, "form 2"):
+        with self.assertRaisesRegex(JournalFault, "form 3"):
             Store(self.path)
 
     def test_where_there_can_be_no_file(self):

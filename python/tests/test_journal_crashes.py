@@ -77,6 +77,12 @@ class Crashes(Case):
         found = crashing.full_disks(self.room, self.shimmed(), (9, 70))
         self.assertGreater(found.get("told", 0), 0)
 
+    def test_failed_syncs(self):
+        found = crashing.failed_syncs(self.room, self.shimmed(), (9, 16, 30))
+        self.assertGreater(found.get("is there", 0) + found.get("isn't there", 0), 1, found)
+        with Store(crashing.whole(self.room)) as store, self.assertRaisesRegex(AssertionError, "after a sync that failed"):
+            crashing.refuses(store, crashing.Model().upto(60), 61)
+
 
 if __name__ == "__main__":
     unittest.main()

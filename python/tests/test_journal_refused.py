@@ -10,6 +10,7 @@ from journaled import JournalCase, Model, batch, put, told
 
 from misteluk import JournalFault, KindsFull, Limits, NamesFull, NotWritten, OverLimit, PoolEmpty, Store
 from misteluk.engine.protocol import WHOLE
+from misteluk.engine.waiting import WaitingEngine
 from misteluk.journal.checking import check
 from misteluk.journal.journal import Journal
 
@@ -50,24 +51,23 @@ class Refused(JournalCase):
         with self.opened() as store, store.open() as session:
             self.assertEqual([it[:3] for it in session.edges()], [("k", "Ж", "b")])
 
-    def test_a_refused_batch_that_a_crash_left(self):
-        """It is taken out by the next opening, as nobody was told of it; one that can be applied is in then."""
-        for room, versions in ((1, [1]), (3, [1, 2])):
-            with self.subTest(room=room):
-                self.path = str(self.room / f"{room}.db")
-                store = self.opened(limits=Limits(vertices=3 if room == 3 else 2))
-                put(store, [("insert", "k", "a", "b", 1, 1)])
-                with mock.patch.object(Journal, "take_back", side_effect=KeyboardInterrupt), \
-                        mock.patch.object(type(store.engine.inner), "fly", side_effect=KeyboardInterrupt), \
-                        self.assertRaises(KeyboardInterrupt):
-                    put(store, [("insert", "k", "a", "c", 1, 1)])
-                self.assertEqual(self.rows("SELECT version FROM batches"), [(1,), (2,)])
-                store.kill()
-                with Store(self.path) as store:
-                    self.assertEqual((store.stat().version, self.rows("SELECT version FROM batches")),
-                                     (versions[-1], [(it,) for it in versions]))
-                    self.assertEqual(put(store, [("add", "k", "a", "b", 1, 1)]).version, versions[-1] + 1)
-                self.assertEqual(check(self.path).faults, [])
+    def test_a_batch_that_a_crash_left(self):
+        """It is on the disk and was accepted by nobody: the next opening has it, with the answer that a repeat gets. One that the
+        engine refuses isn't written at all."""
+        store = self.opened(limits=Limits(vertices=3))
+        put(store, [("insert", "k", "a", "b", 1, 1)])
+        with mock.patch.object(WaitingEngine, "finish", side_effect=KeyboardInterrupt), self.assertRaises(KeyboardInterrupt):
+            put(store, [("insert", "k", "a", "c", 1, 1)], producer="feed", sequence=1)
+        self.assertEqual((self.rows("SELECT version FROM batches"), told_of(store.engine)), ([(1,), (2,)], (1, 1)))
+        store.kill()
+        with Store(self.path) as store:
+            self.assertEqual((store.stat().version, store.commit(producer="feed", sequence=1)[:2]), (2, (2, 1)))
+            with mock.patch.object(Journal, "append") as append, self.assertRaises(NamesFull):
+                put(store, [("insert", "k", "a", "d", 1, 1)])
+            self.assertFalse(append.called)
+            store.discard()
+            self.assertEqual(put(store, [("add", "k", "a", "b", 1, 1)]).version, 3)
+        self.assertEqual(check(self.path).faults, [])
 
     def test_blocks_are_as_many_as_the_file_needs(self):
         with self.opened() as store:
@@ -210,36 +210,53 @@ class Failed(JournalCase):
             for it in self.room.glob("graph.db*"):
                 it.unlink()
 
-    def test_what_is_refused_and_can_t_be_taken_out(self):
-        store = self.opened(limits=Limits(vertices=2))
-        put(store, [("insert", "k", "a", "b", 1, 1)])
-        failing = self.planted(store, "DELETE", of_sqlite("database or disk is full", "SQLITE_FULL"))
+    def test_a_disk_that_is_full_as_the_desk_is_replaced(self):
+        """Where the batch goes into a larger desk, or drops names: the one in use stays, with what it has."""
+        store = self.opened(endless=True, limits=Limits(vertices=10))
+        put(store, [("insert", "k", f"a{it}", f"b{it}", 1, 1) for it in range(5)])
+        put(store, [("remove", "k", "a0", "b0", 0, 0)])
+        before = told(store)
+        failing = self.planted(store, "COMMIT", of_sqlite("database or disk is full", "SQLITE_FULL"))
         for _ in range(2):
-            with self.assertRaisesRegex(JournalFault, "can't be taken out"):
-                put(store, [("insert", "k", "a", "c", 1, 1)])
+            with self.assertRaises(NotWritten):
+                put(store, [("insert", "k", "new", "er", 1, 1)])
+            self.assertEqual((told(store), store.discard()), (before, 1))
         failing.is_on = False
-        self.assertEqual(store.stat().names, 2)
-        store.discard()
+        put(store, [("insert", "k", "new", "er", 1, 1)])
+        after = told(store)
+        self.assertEqual((after[0], len(after[1]), after[2][-2:], self.rows("SELECT version FROM batches WHERE drops")),
+                         (3, 5, ["new", "er"], [(3,)]))
         store.close()
         with Store(self.path) as store:
-            self.assertEqual(store.stat().version, 1)
+            self.assertEqual(told(store), after)
 
     def test_nobody_sees_what_is_not_on_the_disk(self):
-        """While a batch is being synced, sessions get the version before it."""
-        store, seen = self.fed(2), []
-        journal = store.engine._journal
+        """While a batch is being synced, sessions get the version before it, and keep it."""
+        store, seen, kept = self.fed(2, seats=4), [], []
+        journal, engine = store.engine._journal, store.engine
+
+        def asks():
+            seen.append((engine.stat().version, *told_of(engine)))
+            kept.append(engine.hold(None))
 
         class Watching(Failing):
             def execute(self, words, *values):
                 if words == "COMMIT":
-                    other = threading.Thread(target=lambda: seen.append(told_of(store.engine)))
+                    other = threading.Thread(target=asks)
                     other.start()
                     other.join(60)
                 return self.inner.execute(words, *values)
         journal.opened = Watching(journal.opened, "", None)
-        put(store, batch(3))
-        self.assertEqual(seen, [(2, len(Model().upto(2).edges))])
-        self.assertEqual(told(store), Model().upto(3).told())
+        for number in (3, 4):
+            put(store, batch(number))
+            self.assertEqual(told(store), Model().upto(number).told())
+        edges = [len(Model().upto(it).edges) for it in (2, 3)]
+        self.assertEqual(seen, [(2, 2, edges[0]), (3, 3, edges[1])])
+        self.assertEqual([(it.number, it.edges(WHOLE).size) for it in kept], [(2, edges[0]), (3, edges[1])])
+        journal.opened = journal.opened.inner
+        for it in kept:
+            it.close()
+        self.assertEqual((store.commit().version, store.stat().retired), (5, 0), "what was held is given back")
 
 
 if __name__ == "__main__":

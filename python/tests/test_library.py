@@ -19,7 +19,7 @@ from support import HERE, Case
 
 import misteluk
 from misteluk import Edge, Store
-from misteluk.engine import calling, finding, held, interface
+from misteluk.engine import asked, calling, finding, held, interface
 from misteluk.engine.finding import OF_LIBRARY, find_library
 from misteluk.engine.guard import Guard, Notes, Owned, alone
 
@@ -108,7 +108,7 @@ class InProcess(Case):
             for _ in range(2):
                 self.assertEqual([it().dict() for it in asks], wanted)
             self.assertEqual([it.call_count for it in counted], [2, 2, 2, 2])
-            with mock.patch.object(held, "MOST_KEPT", 60):  # (three vertices: 12 bytes, and 48 of degrees)
+            with mock.patch.object(asked, "MOST_KEPT", 60):  # (three vertices: 12 bytes, and 48 of degrees)
                 for it in (session.degrees, session.components, session.cores, session.components, session.degrees):
                     it()
                 self.assertEqual([it.call_count for it in counted], [2, 2, 2, 2])

@@ -9,7 +9,7 @@ from interrupting import at_line
 from support import IS_SERVED, Case, optional
 
 import misteluk
-from misteluk.engine.held import Answers
+from misteluk.engine.asked import Answers
 from misteluk import Edge, Neighbor, Store
 
 pandas = optional("pandas")

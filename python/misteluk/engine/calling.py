@@ -2,6 +2,7 @@
 from __future__ import annotations
 
 import os
+import struct
 import threading
 from array import array
 from ctypes import c_uint64
@@ -23,6 +24,8 @@ WORDS = {Code.BATCHES_FULL: "BatchLimit", Code.NAMES_FULL: "NamesFull", Code.KIN
          Code.BLOCKS_FULL: "PoolEmpty", Code.NO_VERTEX: "NoVertex", Code.NO_KIND: "NoKind"}
 # Up to so many operations each have a call of their own, and so many go into one batch at the most.
 FEW, MOST_AT_ONCE = 6, 65_536
+# How the counts of a batch stand in memory.
+_COUNTS = struct.Struct("=7Q")
 _OPENED: "Dict[Tuple[str, int], Tuple[Library, Handles]]" = {}
 
 
@@ -110,15 +113,22 @@ class Known(NamedTuple):
 
 
 class LibraryFlight:
-    """A batch on its way: in a handle of C, which is emptied as it is applied; and what it did, once that is known."""
+    """A batch on its way: in a handle of C, which is emptied as it is applied; whether it is only made ready for now, and whether
+    names and kinds without an edge are dropped before it; and what it did, once that is known."""
 
-    __slots__ = ("batch", "collect", "cut", "owned", "counts", "receipt")
+    __slots__ = ("batch", "collect", "cut", "owned", "counts", "waits", "drops", "receipt")
 
     def __init__(self, batch: Operations, collect: bool, owned: Owned) -> None:
         self.batch, self.collect, self.owned = batch, collect, owned
         self.cut: List[None] = []
         self.counts = interface.Counts()
+        self.waits = self.drops = False
         self.receipt: Optional[Commit] = None
+
+    def take(self, before: int) -> None:
+        """Takes what it did, by its counts, where so many versions were made before the desk began."""
+        version, inserted, updated, removed, absent, overflowed, expired = _COUNTS.unpack(self.counts)
+        self.receipt = Commit(version + before, inserted, updated, removed, absent, overflowed, 1, expired)
 
 
 def fill(library: Library, raw: interface.Batch, batch: Operations) -> None:

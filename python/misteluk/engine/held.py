@@ -7,9 +7,10 @@ from bisect import bisect_left
 from ctypes import c_size_t, c_uint32, c_uint64, c_void_p
 from itertools import chain
 from operator import itemgetter
-from typing import Any, Dict, List, NamedTuple, Optional, Protocol, Sequence, Tuple, Union
+from typing import Any, Dict, List, NamedTuple, Optional, Protocol, Sequence, Tuple, Union, cast
 
 from . import interface
+from .asked import Answers
 from .calling import Handles, Known, LibraryFlight, address, check, refusal_of, room, texts_of
 from .guard import Guard, Notes, Owned
 from .interface import Code, Library
@@ -22,8 +23,6 @@ from ..values.records import MOST_NAME
 # What no hold has; how many edges of a vertex are asked for at first; and up to how many names the room for them isn't asked for
 # (there are fewer kinds).
 NO_HOLD, A_ROW, FEW_NAMES = (1 << 64) - 1, 32, 4_096
-# How many bytes of tables a version keeps.
-MOST_KEPT = 64 << 20
 ALL_EDGES = interface.View(WHOLE.since, WHOLE.until, interface.ANY_KIND)
 
 
@@ -68,32 +67,6 @@ class Row:
         self.places: Any = [word for it in (kinds, *others) for word in (c_void_p(address(it)), c_size_t(size))]
 
 
-class Answers:
-    """Tables that were asked for, by what was asked: the latest ones, as long as they have at most `MOST_KEPT` bytes, or the last
-    one. It has no lock, which an interrupt could leave behind: what a thread misses meanwhile is asked for again."""
-
-    def __init__(self) -> None:
-        self._found: "Dict[object, Sequence[array[int]]]" = {}
-
-    def __len__(self) -> int:
-        return len(self._found)
-
-    def get(self, asked: object) -> "Optional[Sequence[array[int]]]":
-        found = self._found.pop(asked, None)
-        if found is not None:
-            self._found[asked] = found  # (as the latest one)
-        return found
-
-    def put(self, asked: object, columns: "Sequence[array[int]]") -> None:
-        self._found[asked] = columns
-        sizes = {key: sum(len(it) * it.itemsize for it in found) for key, found in list(self._found.items())}
-        left = sum(sizes.values())
-        for key in list(sizes)[:-1]:
-            if left > MOST_KEPT:
-                left -= sizes[key]
-                self._found.pop(key, None)
-
-
 class Kept:
     """What a version keeps from call to call until it is closed: the handles and rows that nobody uses now, and what was asked of
     all. A call takes it once: where the version is closed meanwhile, it ends with what it took, which goes with it."""
@@ -111,7 +84,10 @@ class Kept:
 
 
 class LibraryVersion:
-    """A version that is held. Each thread that asks takes a handle of its own: a copy of the first one, which is never asked."""
+    """A version that is held. Each thread that asks takes a handle of its own: a copy of the first one, which is never asked.
+    `_other` is the one whose hold it shares."""
+
+    _is_open, _other = False, cast("Optional[LibraryVersion]", None)
 
     def __init__(self, engine: Holder, opening: Opening, slot: int) -> None:
         self.slot, self._engine, self._library = slot, engine, engine.library
@@ -120,7 +96,6 @@ class LibraryVersion:
         self._first = Owned(interface.Version(), self._versions)
         self._hold = self._holds.know(self, interface.Hold(NO_HOLD, NO_HOLD))
         self.kept = Kept()
-        self._is_open = False
         self.number = self.count = 0
         # What a server keeps of answers, as it told them.
         self.told: Dict[str, bytes] = {}
@@ -138,6 +113,12 @@ class LibraryVersion:
         self._kind_count = stat.kinds
         self._is_open = True
 
+    def begin_with(self, other: "LibraryVersion") -> None:
+        """Holds what another one holds, together with it, where the desk can't be asked."""
+        check(self._library.version_clone(other._first.raw, self._first.raw))
+        self._is_open, self._other, self.number, self.count = True, other, other.number, other.count
+        self._edges, self._kind_count = other._edges, other._kind_count
+
     @property
     def is_open(self) -> bool:
         return self._is_open and not self._engine.is_closed
@@ -148,6 +129,7 @@ class LibraryVersion:
     def leave_seat(self) -> None:
         """Lets the hold go. It answers on, and its blocks aren't the desk's any more."""
         self._holds.let_go(self._hold)
+        self._other = None
 
     def end(self) -> None:
         """Lets the hold go, and the handles that nobody asks by now; the others go with those who do so."""

@@ -10,11 +10,10 @@ from __future__ import annotations
 
 import itertools
 import os
-import struct
 import time
 import weakref
 from ctypes import c_uint64
-from typing import Any, Callable, Dict, Iterable, List, Optional, Sequence, Tuple
+from typing import Any, Dict, Iterable, List, Optional, Sequence, Tuple
 
 from . import interface
 from .calling import MOST_AT_ONCE, WORDS, Known, LibraryFlight, check, fill, opened, refusal_of
@@ -32,8 +31,6 @@ from ..values.limits import MOST_BATCHES, MOST_BLOCKS, MOST_KINDS, MOST_WEIGHT, 
 
 # How many blocks a desk has at first, and how many times as many one that has room for more.
 FIRST_BLOCKS, MORE_BLOCKS = 65_536, 4
-# How the counts of a batch stand in memory.
-_COUNTS = struct.Struct("=7Q")
 # The numbers of desks: each of the process has its own.
 _NUMBERS = itertools.count(1)
 
@@ -61,8 +58,6 @@ class LibraryEngine:
         # The handle of a batch that was applied, and so has no operation: the next one takes it.
         self._empty: List[Owned] = []
         self._freed = c_uint64()
-        # What is called before an endless one drops names and kinds; where it raises, they stay.
-        self.before_drop: Callable[[], object] = lambda: None
         # (an endless one has few vertices at first, so that it lets those go that have no edge, before it takes many)
         is_plain = limits.vertices is limits.kinds is None
         self._opening = self._new(0, blocks or FIRST_BLOCKS, limits.shape(0, MOST_KINDS if endless and is_plain else 0))
@@ -117,8 +112,7 @@ class LibraryEngine:
         if number < opening.number:
             opening = opening._replace(before=opening.number, kept=0)
         elif flight is not None and number > opening.number:
-            version, inserted, updated, removed, absent, overflowed, expired = _COUNTS.unpack(flight.counts)
-            flight.receipt = Commit(version + opening.before, inserted, updated, removed, absent, overflowed, 1, expired)
+            flight.take(opening.before)
             self._empty = [flight.owned]
             opening = opening._replace(number=number, kept=opening.kept + flight.batch.size)
         return opening._replace(flying=None, begins_anew=False)
@@ -183,11 +177,16 @@ class LibraryEngine:
         if not is_crowded and flight.batch.asked(stat.used) <= stat.free + stat.retired:
             check(self._applied(self._begin_anew(opening), flight))
         else:
-            self._opening = self._moved(opening, stat, flight, is_crowded)
+            self._apply_there(self._moved(opening, stat, flight, is_crowded), flight)
+
+    def _apply_there(self, moved: Opening, flight: LibraryFlight) -> None:
+        """Applies a batch at another desk, which takes the place of the one in use once it has the batch."""
+        check(self.library.desk_apply(moved.desk.raw, flight.owned.raw, flight.counts))
+        self._opening = moved._replace(flying=flight)
 
     def _moved(self, opening: Opening, stat: Stat, flight: LibraryFlight, is_crowded: bool) -> Opening:
-        """Another desk, with more room, and a batch in it. An endless store lets names and kinds go that have no edge, where
-        there would be too many. Raises `Denied` where what was said leaves no room."""
+        """Another desk, with more room for a batch. An endless store lets names and kinds go that have no edge, where there would
+        be too many. Raises `Denied` where what was said leaves no room."""
         asked, blocks = flight.batch.asked(stat.used), opening.blocks
         while self.grows and asked > blocks - stat.used and blocks < MOST_BLOCKS:
             blocks = min(blocks * MORE_BLOCKS, MOST_BLOCKS)
@@ -206,11 +205,8 @@ class LibraryEngine:
             shape = self.limits.shape(vertices, kinds)
         if is_short:
             raise Denied("PoolEmpty", stat=stat)
-        if is_crowded and self.endless:
-            self.before_drop()
-        moved = self._copy(content, opening.number, blocks, shape)
-        check(self.library.desk_apply(moved.desk.raw, flight.owned.raw, flight.counts))
-        return moved._replace(flying=flight)
+        flight.drops = is_crowded and self.endless
+        return self._copy(content, opening.number, blocks, shape)
 
     @staticmethod
     def _has_room(shape: Limits, vertices: int, kinds: int) -> bool:

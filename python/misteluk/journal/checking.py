@@ -14,7 +14,6 @@ from .opening import make_engine
 from .recovery import State, must_end, oldest_kept, rows_of
 from .tables import connect, faults_told, read_head, read_settings
 from ..values.texts import Path
-from ..engine.protocol import Denied
 from ..errors import JournalFault
 
 
@@ -77,10 +76,7 @@ def _replay(opened: sqlite3.Connection, state: State, bases: Dict[int, Base], ol
             raise JournalFault(f"the oldest base, of version {oldest}, can't be read, and nothing leads to the batches behind it")
         state.begin(oldest, *read_base(opened, oldest))
     for row in rows_of(opened, oldest, last):
-        try:
-            state.replay(row)
-        except Denied as fault:
-            raise JournalFault(f"the batch of version {row.version} is refused ({fault.word})") from None
+        state.replay(row)
         if row.version in bases and not _is_same(state, bases[row.version]):
             raise JournalFault(f"the base of version {row.version} isn't the graph that the batches before it lead to")
     if state.version != last:

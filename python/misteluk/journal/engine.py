@@ -1,8 +1,9 @@
 """The engine of a store that has a file: the library's, and a journal that has each batch before it.
 
-This has the order of a commit in one place. A batch is written and synced, and then applied, which publishes it; what the library
-refuses is taken out of the file before that is said. With a library that says beforehand whether it takes a batch, `fly` begins
-with that, and nothing has to be taken out.
+This has the order of a commit in one place. The library makes a batch ready, and refuses it where it must; then it is written and
+synced; then the library accepts it, which can't fail, and whoever opens a session sees it; and then it is answered. Where it
+can't be written the library gives it up, and nothing was changed. What an interrupt broke off the file decides: a batch that it
+has is in.
 """
 from __future__ import annotations
 
@@ -16,12 +17,13 @@ from .passing import Passing
 from .recovery import State
 from .scripts import Writer
 from .tables import Settings, Written, digest
+from ..engine.calling import LibraryFlight
 from ..engine.guard import Guard, alone
 from ..engine.held import LibraryVersion
 from ..engine.operations import Operations, Post
 from ..engine.protocol import Held
 from ..errors import ReadOnly, SequenceTaken, StoreError
-from ..values.answers import Commit, Rebased, Renewed
+from ..values.answers import Collected, Commit, Rebased, Renewed
 from ..feeds.terms import Terms
 
 
@@ -30,13 +32,15 @@ class Journaled(Passing):
 
     def __init__(self, journal: Journal, state: State) -> None:
         super().__init__(state.engine)
-        self._journal, self.state, self._guard, self._writer = journal, state, Guard(), Writer()
+        self._inner, self._journal, self.state = state.engine, journal, state
+        self._guard, self._writer = Guard(), Writer()
+        # The batch that may be on its way.
+        self._flying: Optional[LibraryFlight] = None
         self._compacting = threading.Lock()
         # How it began: the version, the base, and the batches and operations behind that.
         self.recovered = state.version, state.base, state.batches, state.operations
         # The store's terms, and how many of its texts the file has.
         self._terms, self._seen = Terms(), 0
-        self.inner.before_drop = journal.mark_drop
 
     def attach(self, terms: Terms) -> None:
         """Takes the names and units of the store, which are written with its batches."""
@@ -60,20 +64,23 @@ class Journaled(Passing):
     # Batches.
 
     @alone
-    def fly(self, flight: Any) -> Commit:
-        batch: Operations = flight.batch
+    def fly(self, flight: LibraryFlight) -> Commit:
+        self._settle()
+        batch = flight.batch
         records = self._writer.records_of(batch)
         if batch.post is not None:
             first = self._first_answer(batch.post, batch.size, records)
             if first is not None:
                 return first
-        terms = batch.terms or self._terms
-        settings = self.settings.with_units(terms.units) if batch.size else self.settings
-        seen = self._seen if terms.names is self._terms.names else 0
-        entry = Entry(records, batch.size, terms.names.since(seen), *(batch.post or (None, None)))
-        row = self._journal.append(entry, settings)
-        self._seen += len(entry.texts) if terms.names is self._terms.names else 0
-        return self._applied(flight, row)
+        self._journal.must_be_well()
+        self._flying = flight
+        self._inner.begin(flight)
+        try:
+            row = self._written(flight, records)
+        except Exception:
+            self._inner.cancel()
+            raise
+        return self._finished(flight, row)
 
     def _first_answer(self, post: Post, size: int, records: bytes) -> Optional[Commit]:
         """What the batch of this number did before; `None` where it is a new one. One without an operation asks for that
@@ -88,31 +95,41 @@ class Journaled(Passing):
             raise SequenceTaken(f"{post.producer} has sent another batch as {post.sequence}", known.sequence)
         return known.commit
 
-    def _applied(self, flight: Any, row: Written) -> Commit:
-        """Applies a batch that the file has, or takes it out where it is refused."""
-        try:
-            receipt = self.inner.fly(flight)
-        except Exception:
-            if self.inner.landed(flight) is None:
-                self._seen = 0  # (with the batch the texts go that came with it)
-                self._journal.take_back(row.version - 1)
-            raise
-        # (where names were dropped before it, its sum is another one by now)
-        self.state.take(row._replace(sum=self._journal.head.sum), receipt)
+    def _written(self, flight: LibraryFlight, records: bytes) -> Written:
+        """Writes a batch that is ready, with what comes with it."""
+        batch = flight.batch
+        terms = batch.terms or self._terms
+        settings = self.settings.with_units(terms.units) if batch.size else self.settings
+        seen = self._seen if terms.names is self._terms.names else 0
+        entry = Entry(records, batch.size, terms.names.since(seen), flight.drops, *(batch.post or (None, None)))
+        row = self._journal.append(entry, settings)
+        self._seen += len(entry.texts) if terms.names is self._terms.names else 0
+        return row
+
+    def _finished(self, flight: LibraryFlight, row: Written) -> Commit:
+        """Has the library accept a batch that the file has."""
+        receipt = self._inner.finish(flight)
+        self.state.take(row, receipt)
         return receipt
 
+    def _settle(self) -> None:
+        """Finds what became of a batch whose call was broken off: it is in where the file has it. After a failed sync nobody
+        knows whether that has it for good, and it isn't in."""
+        flight = self._flying
+        if flight is None:
+            return
+        if self._journal.fault is None and self._journal.settle().version > self.state.version:
+            self._finished(flight, self._journal.last())
+        else:
+            self._inner.cancel()
+        self._flying = None
+
     @alone
-    def landed(self, flight: Any) -> Optional[Commit]:
-        receipt = self.inner.landed(flight)
+    def landed(self, flight: LibraryFlight) -> Optional[Commit]:
+        self._settle()
+        receipt = self._inner.landed(flight)
         if receipt is None and self._journal.fault is not None:
             raise self._journal.fault
-        head = self._journal.settle()
-        if head.version == self.state.version:
-            return receipt
-        row = self._journal.last()
-        if receipt is None:  # (the file has it, and an interrupt came before it was applied)
-            return self._applied(flight, row)
-        self.state.take(row, receipt)
         return receipt
 
     def last_sequence(self, producer: str) -> Optional[int]:
@@ -123,7 +140,23 @@ class Journaled(Passing):
     # The whole.
 
     @alone
+    def fit(self, vertices: int, kinds: int, blocks: int) -> None:
+        self._settle()
+        self._inner.fit(vertices, kinds, blocks)
+
+    @alone
+    def collect(self) -> Collected:
+        self._settle()
+        return self._inner.collect()
+
+    @alone
+    def renew(self) -> Renewed:
+        self._settle()
+        return self._inner.renew()
+
+    @alone
     def rebase(self, version: Any) -> Rebased:
+        self._settle()
         number = self.inner.stat().version
         if version.number != number:
             raise StoreError(f"a store with a file doesn't begin anew with an older version ({version.number}, and the last is "
@@ -147,9 +180,10 @@ class Journaled(Passing):
     @alone
     def _frozen(self) -> "Tuple[LibraryVersion, Callable[[Held], Base], bytes]":
         """The last version, held, what makes a base of it, and the sum of its batch."""
+        self._settle()
         texts, producers = dict(self.state.texts), dict(self.state.producers)
         held = self.inner.hold_apart()
-        assert held.number == self.state.version  # (what an interrupt left is settled)
+        assert held.number == self.state.version
         return held, lambda held: Base.of(held, texts, producers), self.state.sum
 
     def close(self) -> None:

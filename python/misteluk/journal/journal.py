@@ -10,9 +10,8 @@ from contextlib import suppress
 from typing import Any, List, Mapping, NamedTuple, Optional, Set, Tuple
 
 from .lock import WritersLock
-from .recovery import rows_of, texts_of
-from .tables import (OF_BATCH, SYNCS, Head, Settings, Statement, Written, connect, faults_told, make, read_head, read_settings,
-                     read_sum)
+from .recovery import rows_of
+from .tables import (OF_BATCH, SYNCS, Head, Settings, Statement, Written, connect, faults_told, make, read_head, read_settings)
 from .wal import commits_lost
 from ..values.texts import Path
 from ..errors import JournalError, JournalFault, Locked, NotWritten
@@ -20,19 +19,20 @@ from ..files import keep_folder, place_of
 
 _INSERT = f"INSERT INTO batches({OF_BATCH}) VALUES (?, ?, ?, ?, ?, ?, ?, ?, ?)"
 # (by its seal: where another writer came in between, the head is another one)
-_ADVANCE = "UPDATE head SET version=?, confirmed=?, epoch=?, sum=?, seal=? WHERE seal=?"
+_ADVANCE = "UPDATE head SET version=?, epoch=?, sum=?, seal=? WHERE seal=?"
 # A sync that failed, by SQLite's name; a Python before 3.11 has no names for one error of the disk and another.
 _SYNCS_FAILED = "SQLITE_IOERR_FSYNC", "SQLITE_IOERR_DIR_FSYNC"
 _DISK_FAILED = "disk I/O error"
 
 
 class Entry(NamedTuple):
-    """A batch that is to be written: its records and how many they are, the texts of ids that come with it, and whose it is, by
-    which number."""
+    """A batch that is to be written: its records and how many they are, the texts of ids that come with it, whether names and
+    kinds without an edge are dropped before it, and whose it is, by which number."""
 
     records: bytes
     operations: int
     texts: Mapping[str, str]
+    drops: bool = False
     producer: Optional[str] = None
     sequence: Optional[int] = None
 
@@ -132,36 +132,14 @@ class Journal:
             head = self.settle()
             texts = {it: text for it, text in entry.texts.items() if it not in self.written}
             self._at = max(self._at, time.time_ns() // 1_000)
-            row = Written(head.version + 1, self._at, entry.operations, entry.records, json.dumps(texts) if texts else None, 0,
-                          entry.producer, entry.sequence).summed(head.sum)
+            row = Written(head.version + 1, self._at, entry.operations, entry.records, json.dumps(texts) if texts else None,
+                          int(entry.drops), entry.producer, entry.sequence).summed(head.sum)
             changed = settings.written() if settings != self.settings else []
-            self._write(Head(row.version, head.version, head.epoch, row.sum), (_INSERT, row), *changed)
+            self._write(Head(row.version, head.epoch, row.sum), (_INSERT, row), *changed)
             self._writers.note(row.version)
             self.settings = settings
             self.written.update(texts)
             return row
-
-    def mark_drop(self) -> Written:
-        """Notes that names and kinds without an edge are dropped before the last batch."""
-        with self._alone:
-            head, row = self.settle(), self.last()._replace(drops=1)
-            row = row.summed(read_sum(self.opened, row.version - 1))
-            self._write(head._replace(sum=row.sum), ("UPDATE batches SET drops=1, sum=? WHERE version=?", (row.sum, row.version)))
-            return row
-
-    def take_back(self, version: int) -> None:
-        """Takes the batches behind a version out: the engine refuses the first of them, and nobody was told of any."""
-        with self._alone:
-            head = self.settle()
-            self._writers.note(version)
-            for row in rows_of(self.opened, version, head.version):
-                self.written.difference_update(texts_of(row))
-            try:
-                self._write(Head(version, min(version, head.confirmed), head.epoch, read_sum(self.opened, version)),
-                            ("DELETE FROM batches WHERE version>?", (version,)))
-            except NotWritten as fault:
-                raise self._ended(JournalFault(f"a batch is refused, and can't be taken out of {self.place}: whether it is in is "
-                                               f"decided when that is opened again ({fault})")) from None
 
     def change(self, settings: Settings) -> None:
         """Writes other settings."""

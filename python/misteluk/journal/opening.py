@@ -13,7 +13,7 @@ from .lock import is_written
 from .recovery import State, oldest_kept, recover
 from .tables import Settings, connect, faults_told, read_settings
 from ..values.texts import Path
-from ..engine.library import LibraryEngine
+from ..engine.waiting import WaitingEngine
 from ..errors import OverLimit
 from ..values.limits import Limits
 from ..values.units import NUMBER, Units
@@ -34,13 +34,11 @@ def open_journal(path: Path, *, sync: str, blocks: Optional[int], seats: int, en
     limits take."""
     said = Settings(weight_scale, times).with_limits(limits or Limits())
     journal = Journal(path, sync, said)
-    engine: Optional[LibraryEngine] = None
+    engine: Optional[WaitingEngine] = None
     try:
         settings = _agreed(journal, said, limits)
         engine = make_engine(settings.limits, blocks, seats, endless)
-        state = recover(journal.opened, engine, limits=journal.settings.limits)
-        if state.version < journal.head.version:
-            journal.take_back(state.version)
+        state = recover(journal.opened, engine)
         _settle_engine(engine, settings.limits, blocks, endless)
         state.kinds, vertices = _names_of(engine)
         _must_be_within(settings.limits, vertices, len(state.kinds))
@@ -54,19 +52,19 @@ def open_journal(path: Path, *, sync: str, blocks: Optional[int], seats: int, en
         raise
 
 
-def make_engine(limits: Limits, blocks: Optional[int], seats: int, endless: bool) -> LibraryEngine:
+def make_engine(limits: Limits, blocks: Optional[int], seats: int, endless: bool) -> WaitingEngine:
     """An empty engine that takes all that a file has, however many blocks and names that needs."""
-    engine = LibraryEngine(blocks, seats, endless, limits.checked())
+    engine = WaitingEngine(blocks, seats, endless, limits.checked())
     engine.grows, engine.endless = True, False
     engine.limits = Limits(batches=limits.batches, weight=limits.weight)
     return engine
 
 
-def _settle_engine(engine: LibraryEngine, limits: Limits, blocks: Optional[int], endless: bool) -> None:
+def _settle_engine(engine: WaitingEngine, limits: Limits, blocks: Optional[int], endless: bool) -> None:
     engine.grows, engine.endless, engine.limits = blocks is None, endless, limits
 
 
-def _names_of(engine: LibraryEngine) -> Tuple[List[str], int]:
+def _names_of(engine: WaitingEngine) -> Tuple[List[str], int]:
     """The kinds that an engine has, and how many vertices."""
     with closing(engine.hold(None)) as held:
         return held.kinds(), held.count

@@ -9,11 +9,10 @@ from typing import Dict, Iterator, List, Optional
 from .bases import Base, Taken, fill, read_base
 from .scripts import operations_of
 from .tables import NO_SUM, OF_BATCH, Head, Written, digest, read_head
-from ..engine.library import LibraryEngine
 from ..engine.protocol import Denied
+from ..engine.waiting import WaitingEngine
 from ..errors import JournalFault
 from ..values.answers import Commit
-from ..values.limits import Limits
 
 
 @dataclass
@@ -22,7 +21,7 @@ class State:
     ids, and what producers sent last. And how that was found: by the base of which version (0 is none), and how many batches and
     operations."""
 
-    engine: LibraryEngine
+    engine: WaitingEngine
     version: int = 0
     whole: Optional[int] = None
     sum: bytes = NO_SUM
@@ -41,8 +40,7 @@ class State:
         self.sum, self.texts, self.producers = found, dict(base.texts), dict(base.producers)
 
     def replay(self, row: Written) -> None:
-        """Applies the next batch. Raises `JournalFault` where it isn't the next one, or not as it was written; `Denied` where the
-        engine refuses it: then nothing of it is taken."""
+        """Applies the next batch. Raises `JournalFault` where it isn't the next one, or not as it was written, or is refused."""
         if row.version != self.version + 1:
             raise JournalFault(f"version {self.version + 1} is missing, where {row.version} is there")
         if row.summed(self.sum).sum != row.sum:
@@ -50,7 +48,10 @@ class State:
         operations = operations_of(row.records)
         if row.drops:
             self.engine.drop_idle_names()
-        commit = self.engine.fly(self.engine.flight(operations, True))
+        try:
+            commit = self.engine.fly(self.engine.flight(operations, True))
+        except Denied as fault:
+            raise JournalFault(f"the batch of version {row.version} is refused ({fault.word})") from None
         self.take(row, commit)
         self.batches, self.operations = self.batches + 1, self.operations + operations.size
 
@@ -63,11 +64,8 @@ class State:
             self.producers[row.producer] = Taken(row.sequence, digest(row.records), commit)
 
 
-def recover(opened: sqlite3.Connection, engine: LibraryEngine, until: Optional[int] = None,
-            limits: Optional[Limits] = None) -> State:
-    """What the file holds now, or as of a version, in an empty engine, which takes what was accepted however much that is. The
-    last batch may be one that a crash left before anybody was told of it: it goes in within these limits, or isn't in, and then
-    the state's version is less than the head's.
+def recover(opened: sqlite3.Connection, engine: WaitingEngine, until: Optional[int] = None) -> State:
+    """What the file holds now, or as of a version, in an empty engine, which takes what was accepted however much that is.
 
     Raises `JournalFault` where the file isn't as it was written, with the last version that can be had, and `ValueError` where
     there is no such version.
@@ -79,10 +77,7 @@ def recover(opened: sqlite3.Connection, engine: LibraryEngine, until: Optional[i
         last = head.version if until is None else _kept(opened, head, until)
         _take_base(opened, state, last)
         for row in rows_of(opened, state.version, last):
-            if row.version == head.confirmed + 1 and limits is not None:
-                engine.limits = limits
-            if not _is_replayed(state, row, until is None and row.version > head.confirmed):
-                return state
+            state.replay(row)
         if state.version != last:
             raise JournalFault(f"the versions from {state.version + 1} on are missing, and {last} is the last one")
         must_end(opened, head, state)
@@ -103,17 +98,6 @@ def must_end(opened: sqlite3.Connection, head: Head, state: State) -> None:
         raise JournalFault(f"the head has another sum than the batch of version {head.version}")
     if opened.execute("SELECT 1 FROM batches WHERE version>?", (head.version,)).fetchone():
         raise JournalFault(f"there are batches behind version {head.version}, which the head has as the last one")
-
-
-def _is_replayed(state: State, row: Written, may_be_refused: bool) -> bool:
-    """Whether a batch is in; it may be refused where nobody was told of it."""
-    try:
-        state.replay(row)
-        return True
-    except Denied as fault:
-        if not may_be_refused:
-            raise JournalFault(f"the batch of version {row.version} is refused ({fault.word})") from None
-        return False
 
 
 def _kept(opened: sqlite3.Connection, head: Head, version: int) -> int:

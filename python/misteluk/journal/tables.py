@@ -15,7 +15,7 @@ from ..values.limits import Limits
 from ..values.units import Units
 
 # The number of this form: of another one this package knows nothing; and what SQLite has as the file's application.
-FORM, APPLICATION = 1, int.from_bytes(b"mstl", "big")
+FORM, APPLICATION = 2, int.from_bytes(b"mstl", "big")
 # What a sum before the first batch is.
 NO_SUM = bytes(16)
 # How many bytes of the -wal stay behind a checkpoint, and how many pages make one.
@@ -25,8 +25,8 @@ PATIENCE = 30.0
 SYNCS = ("full", "normal", "off")
 SCHEMA = """
 CREATE TABLE meta(name TEXT PRIMARY KEY, value NOT NULL) WITHOUT ROWID;
-CREATE TABLE head(id INTEGER PRIMARY KEY CHECK (id = 0), version INT NOT NULL, confirmed INT NOT NULL, epoch INT NOT NULL,
-    sum BLOB NOT NULL, seal BLOB NOT NULL);
+CREATE TABLE head(id INTEGER PRIMARY KEY CHECK (id = 0), version INT NOT NULL, epoch INT NOT NULL, sum BLOB NOT NULL,
+    seal BLOB NOT NULL);
 CREATE TABLE batches(version INTEGER PRIMARY KEY, at INT NOT NULL, operations INT NOT NULL, records BLOB NOT NULL, texts TEXT,
     drops INT NOT NULL, producer TEXT, sequence INT, sum BLOB NOT NULL);
 CREATE TABLE bases(version INTEGER PRIMARY KEY, at INT NOT NULL, vertices INT NOT NULL, kinds INT NOT NULL, edges INT NOT NULL,
@@ -64,17 +64,15 @@ class Written(NamedTuple):
 
 
 class Head(NamedTuple):
-    """The row of `head`: the last version, up to which one a restart has nothing to decide, the number of the opening that wrote
-    it, and the sum of the last batch."""
+    """The row of `head`: the last version, the number of the opening that wrote it, and the sum of the last batch."""
 
     version: int
-    confirmed: int
     epoch: int
     sum: bytes
 
     @property
     def seal(self) -> bytes:
-        return digest(json.dumps(self[:3]).encode("ascii"), self.sum)
+        return digest(json.dumps(self[:2]).encode("ascii"), self.sum)
 
 
 class Settings(NamedTuple):
@@ -158,8 +156,8 @@ def make(opened: sqlite3.Connection, settings: Settings) -> None:
         opened.execute("INSERT INTO meta VALUES ('form', ?)", (FORM,))
         for words, values in settings.written():
             opened.execute(words, values)
-        head = Head(0, 0, 0, NO_SUM)
-        opened.execute("INSERT INTO head VALUES (0, ?, ?, ?, ?, ?)", (*head, head.seal))
+        head = Head(0, 0, NO_SUM)
+        opened.execute("INSERT INTO head VALUES (0, ?, ?, ?, ?)", (*head, head.seal))
     opened.execute("COMMIT")
 
 
@@ -176,10 +174,10 @@ def read_settings(opened: sqlite3.Connection) -> Settings:
 
 def read_head(opened: sqlite3.Connection) -> Head:
     """The head. Raises `JournalFault` where it isn't as it was written."""
-    row = opened.execute("SELECT version, confirmed, epoch, sum, seal FROM head").fetchone()
-    if row is None or list(map(type, row)) != [int, int, int, bytes, bytes] or Head(*row[:4]).seal != row[4]:
+    row = opened.execute("SELECT version, epoch, sum, seal FROM head").fetchone()
+    if row is None or list(map(type, row)) != [int, int, bytes, bytes] or Head(*row[:3]).seal != row[3]:
         raise JournalFault("the head isn't as it was written")
-    return Head(*row[:4])
+    return Head(*row[:3])
 
 
 def read_sum(opened: sqlite3.Connection, version: int) -> bytes:

@@ -1,0 +1,102 @@
+"""An engine whose batches wait for somebody who writes them down first: each is made ready, and then accepted or given up.
+
+Making it ready meets every refusal and takes all memory, so that accepting it can't fail. Meanwhile the last version is the one of
+before; the desk answers nothing, so that version is held beforehand, and whoever wants to hold it shares that hold.
+"""
+from __future__ import annotations
+
+import weakref
+from typing import Any, Callable, NamedTuple, Optional
+
+from .calling import LibraryFlight, check
+from .guard import alone
+from .held import LibraryVersion, Opening
+from .library import LibraryEngine
+from ..errors import StoreError
+from ..values.answers import Commit, Stat
+
+
+class Ready(NamedTuple):
+    """A batch that is ready, the opening that has it and takes the place of the one in use, and the last version, as it is told
+    meanwhile."""
+
+    flight: LibraryFlight
+    opening: Opening
+    before: LibraryVersion
+    stat: Stat
+
+
+class WaitingEngine(LibraryEngine):
+    """An engine with the two phases of its desk. An interrupt may come between any two steps of them: `finish` and `cancel` find
+    what was done by then, and do the rest."""
+
+    _ready: Optional[Ready] = None
+
+    @alone
+    def begin(self, flight: LibraryFlight) -> None:
+        """Makes a batch ready. Raises where it is refused, and nothing is changed then. Until `finish` or `cancel` is called it
+        is asked for `stat` and `hold` alone."""
+        flight.waits = True
+        code = self._applied(self._settle(), flight)
+        if code:
+            self._help(self._settle(), code, flight)
+
+    @alone
+    def finish(self, flight: LibraryFlight) -> Commit:
+        """Accepts a batch that is ready, once, however often this is called, and tells what it did."""
+        self._decide(lambda desk: self.library.desk_finish(desk, flight.counts))
+        return self._receipt(flight)
+
+    @alone
+    def cancel(self) -> None:
+        """Gives up the batch that is ready, where there is one: all is as it was."""
+        self._decide(self.library.desk_cancel)
+
+    def _decide(self, call: Callable[[Any], int]) -> None:
+        ready = self._ready
+        if ready is None:
+            return
+        flight, opening = ready.flight, ready.opening
+        call(opening.desk.raw)  # (it is refused where an interrupt came after it, or before the batch was ready)
+        number = self._stat(opening).version
+        if number > opening.number:
+            flight.take(opening.before)
+            self._opening = opening._replace(number=number, kept=opening.kept + flight.batch.size)
+        self._ready = None
+
+    # How the engine does it.
+
+    def _settle(self) -> Opening:
+        if self._ready is None:
+            return super()._settle()
+        if self.is_closed:
+            raise StoreError("the store is closed")
+        return self._opening
+
+    def _applied(self, opening: Opening, flight: LibraryFlight) -> int:
+        if not flight.waits:
+            return super()._applied(opening, flight)
+        self._ready = Ready(flight, opening, self._last(self._opening), self._stat(self._opening))
+        code = self.library.desk_begin(opening.desk.raw, flight.owned.raw)
+        if code:
+            self._ready = None
+        return code
+
+    def _apply_there(self, moved: Opening, flight: LibraryFlight) -> None:
+        if not flight.waits:
+            return super()._apply_there(moved, flight)
+        check(self._applied(moved, flight))
+
+    @alone
+    def stat(self) -> Stat:
+        opening, ready = self._settle(), self._ready
+        return self._stat(opening) if ready is None else ready.stat
+
+    def _hold(self, opening: Opening, slot: int) -> LibraryVersion:
+        ready = self._ready
+        if ready is None:
+            return super()._hold(opening, slot)
+        version = LibraryVersion(self, opening, slot)
+        version.begin_with(ready.before)
+        self._versions = [*(it for it in self._versions if it() is not None), weakref.ref(version)]
+        return version
