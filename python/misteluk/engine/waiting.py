@@ -1,7 +1,7 @@
 """An engine whose batches wait for somebody who writes them down first: each is made ready, and then accepted or given up.
 
-Making it ready meets every refusal and takes all memory, so that accepting it can't fail. Meanwhile the last version is the one of
-before; the desk answers nothing, so that version is held beforehand, and whoever wants to hold it shares that hold.
+Making it ready meets every refusal and takes all memory, so that accepting it can't fail. Meanwhile the last version is the one
+of before; the desk answers nothing, so that version is held beforehand, and whoever wants to hold it shares that hold.
 """
 from __future__ import annotations
 
