@@ -192,11 +192,6 @@ class Installs(Case):
             told, is_well = look()
         self.assertEqual((told[-1], is_well), ("no store can be made: no room", False))
 
-    def test_the_doctor_knows_proved_crates(self):
-        unknown = "compiled, or of elsewhere: not known to be proved"
-        for place, wanted in (("crates/a/out/a", "proved here"), ("crates/a/bin/a", unknown), ("others/a/out/a", unknown)):
-            self.assertEqual(made(str(self.top / place)), wanted, place)
-
     def test_the_doctor_tells_what_was_proved(self):
         """By the archive's page, which an install writes a note by; and nothing where there is none."""
         for page, wanted in ((None, "not known to be proved"), ("# **UNPROVED.**", "not known to be proved"),

@@ -84,6 +84,10 @@ class Rejects(ServeCase):
         self.assertRegex(self.feed()["last_bad"]["reason"], r"^time '2255-01-01': .* and this is 2\d\d years ahead")
         self.append(path, f"late,b,1,{shifted()}\n")
         as_soon_as(lambda: self.edges() == ["a", "late"])
+        version = self.server.board.stat.version
+        self.append(path, f"older,b,1,{shifted(days=-3)}\n")
+        as_soon_as(lambda: self.server.board.stat.version > version)
+        self.assertEqual((self.feed()["rows"], self.feed()["expired"], self.edges()), (4, 2, ["a", "late"]))
 
     def test_what_is_left_to_read(self):
         """A pipe has none that is known."""

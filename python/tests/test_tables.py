@@ -4,12 +4,14 @@ from datetime import timedelta
 from decimal import Decimal
 from itertools import chain
 
-from support import Case
+from support import Case, optional
 
 from misteluk import Columns, Edge
 from misteluk.feeds.spans import kept_time, seconds_of, span
+from misteluk.values.diff import places_at_once, places_of
 from misteluk.values.units import Units
 
+numpy = optional("numpy")
 # Each length of time, and its microseconds.
 SPANS = (("0s", 0), ("1ms", 1_000), ("0.5ms", 500), ("500ms", 500_000), ("1s", 1_000_000), ("1.5s", 1_500_000),
          ("0.000001s", 1), ("6s", 6_000_000), ("1m", 60_000_000), ("10m", 600_000_000), ("0.5m", 30_000_000),
@@ -172,6 +174,9 @@ class Differences(Case):
             self.assertEqual([it for it in Edge._fields if getattr(one, it) != getattr(other, it)], [field] if field else [])
             self.assertEqual([(it.before, it.after) for it in diff.changed], [(one, other)] if field else [], field)
             self.assertEqual((len(diff.gone), len(diff.new)), (0, 0))
+            changed, both = [0] * bool(field), (earlier.edges_columns(), later.edges_columns())
+            for found in (places_of(*both), *([places_at_once(numpy, *both)] if numpy else [])):
+                self.assertEqual(list(map(list, found)), [[], [], changed, changed], field)
 
 
 if __name__ == "__main__":

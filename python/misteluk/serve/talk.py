@@ -122,7 +122,7 @@ class Talk:
             raise
 
     def _gone(self, fault: Exception, was_sent: bool) -> NoServer:
-        found = NoServer(f"{self.url} doesn't answer: {fault or type(fault).__name__}")
+        found = NoServer(f"{self.url} doesn't answer: {str(fault) or type(fault).__name__}")
         found.is_sent = was_sent
         return found
 
