@@ -134,39 +134,52 @@ class Steps(unittest.TestCase):
         self.assertRaisesRegex(ValueError, "ahead is a length of time", ahead_time, 5, None, dates)
 
 
-class Terminal(io.StringIO):
+class Screen(io.StringIO):
+    """What was written, and what of it is seen, which comes once it is flushed."""
+
+    is_terminal, seen = True, ""
+
     def isatty(self):
-        return True
+        return self.is_terminal
+
+    def flush(self):
+        self.seen = self.getvalue()
+
+
+class Pipe(Screen):
+    is_terminal = False
 
 
 class Shown(unittest.TestCase):
-    def steps(self, shown, total=10, err=Terminal):
-        """What is shown of steps of 2, 3 and 4 records, in the seconds 0, 1 and 1.1, without tqdm."""
+    def steps(self, shown, total=10, err=Screen):
+        """What is shown of steps of 2, 3 and 4 records, in the seconds 0, 0.5 and 0.6, without tqdm."""
         told = err()
         with mock.patch.dict("sys.modules", {"tqdm": None}), redirect_stderr(told), mock.patch("time.monotonic") as clock:
             clock.return_value = 0.0
             progress = Progress("reading f", total, shown)
-            for now, count in ((0.0, 2), (1.0, 3), (1.1, 4)):
+            for now, count in ((0.0, 2), (0.5, 3), (0.6, 4)):
                 clock.return_value = now
                 progress.step(count)
-            progress.clear()
-            progress.end()
+                self.assertEqual(told.seen, told.getvalue())
+            for end in (progress.clear, progress.end):
+                end()
+                self.assertEqual(told.seen, told.getvalue())
             progress.step(5)
             progress.end()
         return told.getvalue(), progress.count
 
     def test_without_tqdm(self):
         clear = "\r\033[K"
-        line, rest = f"{clear}reading f: 5 of 10 records, 5 a second", clear * 2
+        line, rest = f"{clear}reading f: 5 of 10 records, 10 a second", clear * 2
         self.assertEqual(self.steps(True), (line + rest, 14))
         self.assertEqual(self.steps(None), (line + rest, 14))
-        self.assertEqual(self.steps(True, err=io.StringIO), (line + rest, 14))
-        self.assertEqual(self.steps(True, total=None)[0], f"{clear}reading f: 5 records, 5 a second{rest}")
-        for how in ({"shown": False}, {"shown": None, "err": io.StringIO}):
+        self.assertEqual(self.steps(True, err=Pipe), (line + rest, 14))
+        self.assertEqual(self.steps(True, total=None)[0], f"{clear}reading f: 5 records, 10 a second{rest}")
+        for how in ({"shown": False}, {"shown": None, "err": Pipe}):
             self.assertEqual(self.steps(**how), ("", 14))
 
     def test_by_tqdm(self):
-        tqdm, err = mock.Mock(), Terminal()
+        tqdm, err = mock.Mock(), Screen()
         with mock.patch.dict("sys.modules", {"tqdm": tqdm}), redirect_stderr(err):
             progress = Progress("reading f", 10, None, "rows")
             for it in (2, 3):

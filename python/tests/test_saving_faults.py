@@ -125,6 +125,39 @@ class Faults(Case):
         with files_of_at_most(20), self.assertRaisesRegex(OSError, "File too large: '.*/e.csv'$"):
             self.session.to_csv(self.room / "e.csv")
 
+    def test_what_is_on_the_disk_first(self):
+        """A file is synced once it is whole, and has its name behind that; then its folder is synced."""
+        done, sync, rename = [], os.fsync, os.replace
+
+        def synced(opened):
+            found = os.fstat(opened)
+            done.append("a folder" if stat.S_ISDIR(found.st_mode) else found.st_size)
+            sync(opened)
+
+        def renamed(*names):
+            done.append("renamed")
+            rename(*names)
+        for path, write in ((self.room / "t.csv", self.session.save), (self.room / "t.csv.gz", self.session.save),
+                            (self.room / "e.csv", self.session.to_csv), (self.room / "e.csv.gz", self.session.to_csv)):
+            with mock.patch.object(os, "fsync", synced), mock.patch.object(os, "replace", renamed):
+                write(path)
+            self.assertEqual(done, [os.stat(path).st_size, "renamed", "a folder"])
+            done.clear()
+
+    def test_a_packed_file_has_no_time(self):
+        """So the same graph makes the same bytes."""
+        self.assertEqual((self.new[:2], self.new[4:8]), (b"\x1f\x8b", bytes(4)))
+
+    def test_a_store_that_can_t_be_filled_is_closed(self):
+        made = []
+
+        def make(blocks, *_):
+            made.append(Store(blocks=blocks))
+            return made[-1]
+        with mock.patch.object(saving, "_fill", side_effect=KeyError), self.assertRaises(KeyError):
+            saving.restore(self.path, make, None, None)
+        self.assertEqual([it.is_closed for it in made], [True])
+
     def test_places_that_can_t_be_written(self):
         os.symlink("/dev/full", self.room / "full")
         for fault, place in ((FileNotFoundError, "no/s.csv"), (IsADirectoryError, "."), (OSError, "full")):
