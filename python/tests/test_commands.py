@@ -104,7 +104,8 @@ class Commands(CommandCase):
         self.assertIn("The saved version. 4 vertices within 2 hops of a", page.read_text())
         self.assertIn("a saved file has one version", self.run_it(*around, "--at", "12")[2])
         self.assertIn("No such file", self.run_it("view", "none.gz", "--around", "a", "-o", page)[2])
-        for words in (("view", self.file("p.csv", PAIRS), "--around", "a", "-o", page), ("view", saved, "-o", page)):
+        for words in (("view", self.file("p.csv", PAIRS), "--around", "a", "-o", page), ("view", saved, "-o", page),
+                      ("view", "-", "--around", "a", "-o", page)):
             with self.assertRaises(SystemExit) as told, redirect_stderr(io.StringIO()) as err:
                 self.run_it(*words)
             self.assertEqual(told.exception.code, 2)

@@ -1,14 +1,17 @@
 """Which library is loaded and which program is run: what is named, what stands around the package, and what is on the path."""
+import io
 import os
 import pathlib
 import unittest
+from contextlib import redirect_stdout
 from unittest import mock
 
 from support import Case
 
-from misteluk.command.doctor import made
+from misteluk.command.doctor import find, look, made
+from misteluk.command.main import main
 from misteluk.engine import finding
-from misteluk.errors import LibraryNotFound, ProgramNotFound
+from misteluk.errors import LibraryNotFound, ProgramNotFound, StoreError
 
 MAKE = ("Make it by ./stinger library in the repository, or install the wheel of a release, or have MISTELUK_LIBRARY name a "
         "libmisteluk.so")
@@ -116,6 +119,37 @@ class Around(Case):
             self.assertEqual(made(path), f"{wanted} ({page})")
         (self.top / "lib/PROVED").write_text("by whom\n")
         self.assertEqual(made(path), "proved (by whom)")
+
+    def test_what_is_found(self):
+        def nowhere():
+            raise StoreError("it is nowhere")
+        path = self.put("lib/it")
+        self.assertEqual(find(lambda: path), (f"{path}; compiled, or of elsewhere: not known to be proved", True))
+        self.assertEqual(find(nowhere), ("it is nowhere", False))
+
+    def test_a_library_that_can_t_be_loaded(self):
+        """It is looked for and loaded, and told of before a store is tried."""
+        none = "no store can be made without the library: its line above says what to do"
+        for named, told in ((self.put("none.so"), "library: no library can be loaded: "),
+                            ("/no/such.so", "library: no file /no/such.so (named by MISTELUK_LIBRARY) is there. ")):
+            with mock.patch.dict(os.environ, {"MISTELUK_LIBRARY": named}):
+                lines, is_well = look()
+                with redirect_stdout(io.StringIO()) as out:
+                    self.assertEqual(main(["doctor"]), 1)
+            (line,) = (it for it in lines if it.startswith("library: "))
+            self.assertEqual((is_well, lines[-1], line[:len(told)]), (False, none, told))
+            self.assertEqual(out.getvalue().splitlines(), lines)
+
+
+class Here(Case):
+    def test_what_a_store_takes(self):
+        lines, is_well = look()
+        self.assertEqual((lines[-1], is_well), (
+            "limits: 8,388,606 vertices with 1 kind, 4,194,303 with 2, 1,048,575 with 8, 131,071 with 64, unless "
+            "Store(limits=..) says others; 4,293,918,719 blocks; batches of 4,096", True))
+        with redirect_stdout(io.StringIO()) as out:
+            self.assertEqual(main(["doctor"]), 0)
+        self.assertEqual(out.getvalue().splitlines(), lines)
 
 
 if __name__ == "__main__":

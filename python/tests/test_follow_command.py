@@ -17,6 +17,7 @@ from unittest import mock
 from support import HERE, Case, as_soon_as
 from test_following import Model, some_rows, text_of
 
+from misteluk.command import follow
 from misteluk.command.main import main
 from misteluk.command.questions import question
 
@@ -75,6 +76,7 @@ class FollowCommand(Case):
         status, out, err = self.run_it(text_of(rows), *asks)
         told = [json.loads(it) for it in out]
         self.assertEqual((status, len(told), [it["rows"] for it in told if "rows" in it]), (0, 9, [300, 600, 900]))
+        self.assertEqual([it for it in told if "behind" in it], [])
         model = Model(rows)
         for commit, degrees, edge in zip(told[0::3], told[1::3], told[2::3]):
             model.go_to(commit["rows"])
@@ -121,7 +123,8 @@ class FollowCommand(Case):
     def test_a_file_that_grows_until_sigterm(self):
         path = self.file("grows.csv", "a,b,1,1\n")
         process = self.start(path, "--json", "--every", "10ms")
-        self.assertEqual(json.loads(process.stdout.readline())["rows"], 1)
+        first = json.loads(process.stdout.readline())
+        self.assertEqual((first["rows"], first["behind"]), (1, 0))
         with open(path, "a") as file:
             file.write("b,c,2,2\n")
         self.assertEqual(json.loads(process.stdout.readline())["rows"], 2)
@@ -178,6 +181,25 @@ class FollowCommand(Case):
                 time.sleep(0.3)
             self.assertEqual(process.returncode, -number)
 
+    def test_when_signals_are_one(self):
+        """The first one stops; one within 0.2 s of it does nothing, and a later one ends the process, as it would by itself."""
+        stop, before = mock.Mock(), {it: signal.getsignal(it) for it in follow.SIGNALS}
+        with mock.patch("time.monotonic") as clock, mock.patch("time.sleep") as rest, mock.patch("os.kill") as kill:
+            clock.return_value = 100.0
+            with follow.ended_by_signals(stop, -1):
+                hear = signal.getsignal(signal.SIGTERM)
+                for now, number in ((100.0, signal.SIGTERM), (100.125, signal.SIGINT), (100.15, signal.SIGTERM)):
+                    clock.return_value = now
+                    hear(number, None)
+                    self.assertEqual((stop.call_count, kill.call_count), (1, 0))
+                clock.return_value = 100.25
+                hear(signal.SIGTERM, None)
+                self.assertEqual(kill.call_args_list, [mock.call(os.getpid(), signal.SIGTERM)])
+                self.assertEqual((stop.call_count, signal.getsignal(signal.SIGTERM)), (1, signal.SIG_DFL))
+                clock.return_value = 100.125
+            self.assertAlmostEqual(rest.call_args[0][0], 0.075)
+        self.assertEqual({it: signal.getsignal(it) for it in follow.SIGNALS}, before)
+
     def test_two_signals_at_once_are_one(self):
         """As those of `timeout` are: both wait for a process that stands still."""
         process = self.start("-", "--every", "1h")
@@ -205,6 +227,7 @@ class FollowCommand(Case):
         self.assertEqual((status, out), (1, []))
         self.assertIn("30 rows of standard input, lines 1 to 30, are not in, and pending still; "
                       "0 rows before them are in. The batch needs 30 free blocks, and 16 are free. ", err)
+        self.assertNotIn("were pending", err)
         status, out, err = self.run_it("a,b,1,1\nb,c,x,2\n")
         self.assertEqual((status, len(out)), (1, 1))
         self.assertIn("misteluk: standard input: 1 of 2 rows can't be taken, and those before line 2 are in, and none behind it\n"
@@ -238,6 +261,16 @@ class FollowCommand(Case):
             self.assertRaises(ValueError, question, text)
         for text in ("into NL91 ABNA 0417", "edge link ana bob b"):
             self.assertRaisesRegex(ValueError, r"and not as .*'\. A name with spaces stands within quotes", question, text)
+        for text, told in (("levels", "levels is asked as `levels NAME [KIND]`, and not as 'levels'"),
+                           ("within a b", "within is asked as `within NAME HOPS [KIND]`, and not as 'within a b'"),
+                           ("degrees a b", "degrees is asked as `degrees [KIND]`, and not as 'degrees a b'"),
+                           ("path a", "path is asked as `path SOURCE TARGET [KIND]`, and not as 'path a'"),
+                           ("edge a b", "edge is asked as `edge KIND SOURCE TARGET`, and not as 'edge a b'"),
+                           ("lewels a", "a question is one of degrees, weights_in, components, cores, edges, levels, into, "
+                            "out_of, neighbors, within, path, edge, and not 'lewels'")):
+            with self.assertRaises(ValueError) as caught:
+                question(text)
+            self.assertEqual(str(caught.exception), told)
         self.assertRaisesRegex(ValueError, "a quote isn't closed in \"into O'Neill\"", question, "into O'Neill")
         self.assertEqual(question("into \"O'Neill\"").names, ("O'Neill",))
 

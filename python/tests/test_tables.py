@@ -1,13 +1,19 @@
 """Plain rows of values, each worked out by hand: lengths of time, parts of weights, ties, and what a difference sees."""
+import gzip
 import unittest
 from datetime import timedelta
 from decimal import Decimal
 from itertools import chain
+from unittest import mock
 
 from support import Case, optional
 
 from misteluk import Columns, Edge
+from misteluk.feeds import limits
+from misteluk.feeds.loading import Loaded
+from misteluk.feeds.opening import form_of
 from misteluk.feeds.spans import kept_time, seconds_of, span
+from misteluk.values.answers import Commit
 from misteluk.values.diff import places_at_once, places_of
 from misteluk.values.units import Units
 
@@ -177,6 +183,41 @@ class Differences(Case):
             changed, both = [0] * bool(field), (earlier.edges_columns(), later.edges_columns())
             for found in (places_of(*both), *([places_at_once(numpy, *both)] if numpy else [])):
                 self.assertEqual(list(map(list, found)), [[], [], changed, changed], field)
+
+
+class Loads(Case):
+    def test_what_a_load_tells(self):
+        for commit, bad, records, seconds, told in (
+                (None, 0, 0, 0.0, "0 records in 0.0 s, 0 a second; 0 edges inserted, 0 updated; version 0"),
+                (Commit(3, 5, 2, 1, 1, 0), 0, 10, 2.0, "10 records in 2.0 s, 5 a second; 5 edges inserted, 2 updated; version 3"),
+                (Commit(3, 5, 2, 1, 1, 4), 6, 10, 4.0, "10 records in 4.0 s, 2 a second; 5 edges inserted, 2 updated; version 3; "
+                 "6 bad rows passed over; 4 amounts NOT added or set, since weights would leave their limits")):
+            found = Loaded(commit, mock.Mock(bad=bad, feed="f", rows=9), records, seconds, 1.0)
+            self.assertEqual((str(found), repr(found), found.bad), (told, f"<Loaded {told}>", bad))
+            html = found._repr_html_()
+            self.assertEqual(("inserted" in html, f"{seconds:.1f}" in html), (commit is not None, True))
+
+    def test_a_feed_s_form(self):
+        """By its name, and of a text by its first sign."""
+        for name, form in (("-", "delimited"), ("a.csv", "delimited"), ("a.tsv.gz", "delimited"), ("a", "delimited"),
+                           ("a.mtx", "matrix"), ("a.mtx.gz", "matrix"), ("mtx", "delimited"), ("a.gz", "delimited")):
+            self.assertEqual(form_of(name, "utf-8"), form, name)
+        for text, form in (("# x\n1 2\n", "snap"), ("1 2\n", "delimited"), ("", "delimited"), (" # x\n", "delimited")):
+            packed = self.room / "b.txt.gz"
+            packed.write_bytes(gzip.compress(text.encode()))
+            self.assertEqual([form_of(it, "utf-8") for it in (self.file("a.txt", text), packed)], [form, form], text)
+
+    def test_smaller_batches(self):
+        """They help where a batch has room, of 4,096 operations at most, and so many batches may be."""
+        fit = "a batch needs as many free blocks as it has operations: batches of {0} fit (batch={0}, --batch {0})"
+        none = "smaller batches don't help: the edges need nearly all blocks, or more than there are"
+        most = 65_536
+        for rows, bad, blocks, used, told in (
+                (10, 0, 20, 19, fit.format(1)), (10, 0, 20, 20, none), (10, 0, 20, 21, none), (10, 0, 20, 18, fit.format(2)),
+                (10, 0, 4_097, 0, fit.format(4_096)), (10, 0, 4_096, 1, fit.format(4_095)), (most, 0, 1, 0, fit.format(1)),
+                (most + 1, 0, 1, 0, none), (most + 1, 1, 1, 0, fit.format(1)), (2 * most, 0, 2, 0, fit.format(2)),
+                (2 * most + 1, 0, 2, 0, none)):
+            self.assertEqual(limits._smaller(mock.Mock(rows=rows, bad=bad), blocks, used), told)
 
 
 if __name__ == "__main__":

@@ -15,7 +15,7 @@ from ..engine.operations import Operations
 from ..engine.protocol import LIBRARY
 from ..errors import NoAnswer, Place, PoolEmpty, Refused, Uncommitted, refusal
 from ..values import records
-from ..values.answers import Commit, shown_as_html, sum_of
+from ..values.answers import NOTHING, Commit, shown_as_html, sum_of
 
 if TYPE_CHECKING:
     from ..store import Store
@@ -43,7 +43,7 @@ class Loaded(NamedTuple):
 
     def __str__(self) -> str:
         sent = self.records
-        done = self.commit or Commit(0, 0, 0, 0, 0, 0, 0)
+        done = self.commit or NOTHING
         text = (f"{sent} records in {self.seconds:.1f} s, {sent / max(self.seconds, 1e-6):.0f} a second; {done.inserted} edges "
                 f"inserted, {done.updated} updated; version {done.version}")
         if self.survey.bad:

@@ -20,12 +20,10 @@ from .rejects import Lines
 from .steps import FeedPlace, Recipe
 from ..engine.operations import Operations, Row
 from ..errors import StoreError
-from ..values.answers import Commit
+from ..values.answers import NOTHING, Commit
 from ..values.names import NameTable
 from .terms import Terms
 from ..values.units import Units
-
-NOTHING = Commit(0, 0, 0, 0, 0, 0, 0, 0)
 
 
 class Wanted(NamedTuple):

@@ -39,6 +39,10 @@ class Commit(NamedTuple):
     expired: int = 0
 
 
+# What no batch did.
+NOTHING = Commit(0, 0, 0, 0, 0, 0, 0)
+
+
 def sum_of(receipts: Sequence[Commit]) -> Commit:
     """What several batches did, as one: the last one's version, and the sums of the counts."""
     if len(receipts) == 1:
