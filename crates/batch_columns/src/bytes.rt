@@ -1,24 +1,57 @@
 //! Operations of bytes.
 
-ghost use Rattle.std.specs.Prelude.{◌≡◌, ◌≤◌, false, IfOk, IfErr, OnErr};
-ghost use Rattle.graph_types.specs.Limits.{most_operations};
-ghost use Rattle.graph_types.specs.Valid.{is_name};
+ghost use Rattle.std.specs.Prelude.{◌≡◌, ◌≤◌, ◌⊎◌, true, false, IfOk, IfErr, OnOk, OnErr};
+ghost use Rattle.graph_types.specs.Limits.{is_time, is_weight, most_operations};
+ghost use Rattle.graph_types.specs.Valid.{is_kind_name, is_name};
 ghost use Rattle.graph_types.specs.declared.batches.NamedOp.TheVariants.{Insert, Incr, Remove, Expire};
 ghost use Rattle.batch_columns.specs.Dictionaries.{IsPushed};
 
-use graph_types::{Batch, NamedOp, PushError};
+use graph_types::{Batch, MOST_WEIGHT, NamedOp, PushError, is_kind_name_bytes, is_name_bytes};
 use std::alloc::Global;
 
-/// A name's bytes as a text; bytes that are no text are no name.
-fn text_of(bytes: &[u8]) -> Result<&str, PushError>
+/// A vertex's name as a text. Each byte is looked at once: a name is ASCII, and so text.
+#[tactic(auto, using(graph_types::proofs::NameTexts::is_name_text))]
+fn name_of(bytes: &[u8]) -> Result<&str, PushError>
     ensures text { IfOk result (λ text. text.now ≡ bytes.now) }
+    ensures name { OnOk result (is_name bytes.now ≡ true) }
     ensures refused { OnErr result (is_name bytes.now ≡ false) }
     ensures error { IfErr result (λ e. e ≡ PushError.BadName) }
 {
-    match str::from_utf8(bytes) {
-        Ok(text) => Ok(text),
-        Err(_) => Err(PushError::BadName),
+    if is_name_bytes(bytes) {
+        Ok(unsafe { str::from_utf8_unchecked(bytes) })
+    } else {
+        Err(PushError::BadName)
     }
+}
+
+/// As `name_of`, of a kind's name.
+#[tactic(auto, using(graph_types::proofs::NameTexts::is_kind_name_text))]
+fn kind_of(bytes: &[u8]) -> Result<&str, PushError>
+    ensures text { IfOk result (λ text. text.now ≡ bytes.now) }
+    ensures kind { OnOk result (is_kind_name bytes.now ≡ true) }
+    ensures refused { OnErr result (is_kind_name bytes.now ≡ false) }
+    ensures error { IfErr result (λ e. e ≡ PushError.BadName) }
+{
+    if is_kind_name_bytes(bytes) {
+        Ok(unsafe { str::from_utf8_unchecked(bytes) })
+    } else {
+        Err(PushError::BadName)
+    }
+}
+
+/// Whether a weight and a time are in range, or the first refusal that holds.
+fn in_range(weight: i64, time: u64) -> Result<(), PushError>
+    ensures ok { OnOk result ((is_weight weight ≡ true) × (is_time time ≡ true)) }
+    ensures refused { IfErr result (λ e. ((e ≡ PushError.BadWeight) × (is_weight weight ≡ false))
+        ⊎ ((e ≡ PushError.BadTime) × (is_weight weight ≡ true) × (is_time time ≡ false))) }
+{
+    if weight.unsigned_abs() > MOST_WEIGHT {
+        return Err(PushError::BadWeight);
+    }
+    if time >= 1 << 63 {
+        return Err(PushError::BadTime);
+    }
+    Ok(())
 }
 
 /// Appends an insertion to a batch, which may have as many operations as the limit; or changes nothing and tells the first refusal
@@ -36,8 +69,9 @@ pub fn push_insert(
     requires { limit ≤ most_operations }
     ensures { IsPushed limit (Insert kind.now source.now target.now weight time) batch.old batch.new result }
 {
-    let (kind, source, target) = (text_of(kind)?, text_of(source)?, text_of(target)?);
-    batch.push_within(
+    let (kind, source, target) = (kind_of(kind)?, name_of(source)?, name_of(target)?);
+    in_range(weight, time)?;
+    batch.push_valid_within(
         NamedOp::insert(alloc, kind, source, target, weight, time)?,
         limit,
     )
@@ -57,8 +91,9 @@ pub fn push_add(
     requires { limit ≤ most_operations }
     ensures { IsPushed limit (Incr kind.now source.now target.now amount time) batch.old batch.new result }
 {
-    let (kind, source, target) = (text_of(kind)?, text_of(source)?, text_of(target)?);
-    batch.push_within(
+    let (kind, source, target) = (kind_of(kind)?, name_of(source)?, name_of(target)?);
+    in_range(amount, time)?;
+    batch.push_valid_within(
         NamedOp::incr(alloc, kind, source, target, amount, time)?,
         limit,
     )
@@ -76,8 +111,8 @@ pub fn push_remove(
     requires { limit ≤ most_operations }
     ensures { IsPushed limit (Remove kind.now source.now target.now) batch.old batch.new result }
 {
-    let (kind, source, target) = (text_of(kind)?, text_of(source)?, text_of(target)?);
-    batch.push_within(NamedOp::remove(alloc, kind, source, target)?, limit)
+    let (kind, source, target) = (kind_of(kind)?, name_of(source)?, name_of(target)?);
+    batch.push_valid_within(NamedOp::remove(alloc, kind, source, target)?, limit)
 }
 
 /// As [`push_insert`], of an expiry.
