@@ -1,6 +1,7 @@
 """Operations in columns: what they leave, where they stop, and which place they tell where one is refused."""
 import random
 import unittest
+from collections import Counter
 from typing import List, Tuple
 
 from calls import Batch, Code, Desk, Operation, Refused, Version, fields, interface, view, whole
@@ -147,6 +148,52 @@ class Columns(unittest.TestCase):
             self.desk.apply(self.batch)
         self.assertEqual(self.batch.append(KINDS, many, rows), (Code.OK, 100))
         self.assertEqual(len(self.batch), 200)
+
+
+def draw(made: random.Random) -> Tuple[List[bytes], List[Tuple[int, int, int, int]]]:
+    """A dictionary, in which some names stand twice, some aren't used and some are no names, and insertions by places in it."""
+    names = [made.choice([b"a", b"b", b"cc", b"d4", b"ee", b"f"]) for _ in range(made.randrange(1, 9))]
+    if made.random() < 0.1:
+        names[made.randrange(len(names))] = made.choice([b"", b"no name", b"\xff", b"n" * 65])
+    places = made.choices(range(len(names)), k=made.randrange(2, 80))
+    return names, [(one, other, made.randrange(-9, 9), made.randrange(99)) for one, other in zip(places, places[1:])]
+
+
+class Insertions(unittest.TestCase):
+    """Insertions of one kind in columns, beside the same ones pushed one by one."""
+
+    def test_what_columns_leave_is_what_one_after_another_leave(self) -> None:
+        told: Counter[Code] = Counter()
+        for seed in range(2_000):
+            made = random.Random(seed)
+            limits = (made.choice([3, 5, 16]), made.choice([1, 2, 3]), 100)
+            desks = [Desk(library(), 256, limits) for _ in range(2)]
+            for _ in range(made.randrange(1, 5)):
+                names, rows = draw(made)
+                kind = made.choice([b"k", b"l", b"m"])
+                told[self.insert_in_both(desks, kind, names, rows)] += 1
+            versions = [desk.hold() for desk in desks]
+            self.assertEqual(whole(versions[0]), whole(versions[1]), seed)
+            for it in (*versions, *desks):
+                it.free()
+        self.assertLessEqual({Code.OK, Code.BAD_NAME, Code.NAMES_FULL, Code.KINDS_FULL}, set(told))
+
+    def insert_in_both(self, desks: List[Desk], kind: bytes, names: List[bytes], rows: List[Tuple[int, int, int, int]]) -> Code:
+        """Inserts the rows in columns and one by one, and hands back what both were told."""
+        code, done, counts = desks[0].insert_columns(kind, names, rows)
+        batch = Batch(library())
+        try:
+            for source, target, weight, time in rows:
+                batch.insert(kind, names[source], names[target], weight, time)
+            alone = fields(desks[1].apply(batch))
+            desks[1].collect()
+        except Refused as refused:
+            self.assertEqual((code, done), (refused.code, 0))
+        else:
+            self.assertEqual((code, done, fields(counts)), (Code.OK, len(rows), alone))
+        finally:
+            batch.free()
+        return code
 
 
 if __name__ == "__main__":
