@@ -2,6 +2,7 @@
 from __future__ import annotations
 
 import array
+from ctypes import sizeof
 from typing import Any, List
 
 from bench.measuring import stop
@@ -29,6 +30,15 @@ def loaded() -> Any:
 def must(code: int) -> None:
     if code != Code.OK:
         stop(f"a call was refused: {Code(code).name}")
+
+
+def limits(names: int, kinds: int, batches: int, weight: int = 1 << 40) -> interface.Limits:
+    return interface.Limits(sizeof(interface.Limits), names, kinds, batches, weight)
+
+
+def written_to(words: "List[int]") -> interface.EdgeColumns:
+    """Columns for edges, each by where it stands and its length."""
+    return interface.EdgeColumns(sizeof(interface.EdgeColumns), *words)
 
 
 def at(values: "array.array[int]") -> int:

@@ -30,8 +30,11 @@
 extern "C" {
 #endif
 
-/* The number of this interface. It grows with each change that an older caller could not take. */
-#define MISTELUK_INTERFACE 3
+/* The number of this interface. It grows with each change that an older caller could not take: a program that is linked to the
+ * shared library of another number doesn't start. */
+#define MISTELUK_INTERFACE 4
+/* The release: 10,000 times the major number, 100 times the minor one, and the last one. */
+#define MISTELUK_VERSION 100
 
 enum {
     MISTELUK_OK = 0,
@@ -53,7 +56,8 @@ enum {
     MISTELUK_NO_VERTEX = 16,
     MISTELUK_NO_KIND = 17,
     MISTELUK_NO_EDGE = 18,
-    MISTELUK_BAD_LIMITS = 19    /* limits of 0 or past their walls, which stand beside misteluk_limits and MISTELUK_MOST_OPERATIONS */
+    MISTELUK_BAD_LIMITS = 19,   /* limits of 0 or past their walls, which stand beside misteluk_limits and MISTELUK_MOST_OPERATIONS */
+    MISTELUK_BAD_SIZE = 21      /* a struct's `size` is none that it has had in this interface */
 };
 
 /* What stands for "any kind" where a kind's number is asked for, and for "not reached" among levels. */
@@ -66,8 +70,12 @@ enum {
 #define MISTELUK_REMOVE 2
 #define MISTELUK_EXPIRE 3
 
-/* How many operations a batch has at the most. Where no limit is chosen it is 4,096. */
+/* How many operations a batch has at the most, and how many where they are appended one by one. */
 #define MISTELUK_MOST_OPERATIONS 1048576
+#define MISTELUK_OPERATIONS 4096
+
+/* How many bytes misteluk_code_text needs at the most. */
+#define MISTELUK_TEXT_BYTES 80
 
 typedef struct { void *at; } misteluk_desk;
 typedef struct { void *at; } misteluk_batch;
@@ -77,10 +85,65 @@ typedef struct { void *at; } misteluk_version;
  * that is opened without limits of its own has 65,536, 64 and 65,536. Each limit is 1 or more, and none passes these walls:
  * 67,108,863 vertices, 64 kinds, and vertices times kinds at most 8,388,606, or more where weights are below 2^40. So a sum of
  * weights is below 2^63. A desk of UINT32_MAX batches keeps none of those that it has applied, so that a stream of updates to a
- * graph of constant size takes level memory. */
+ * graph of constant size takes level memory. `weight` is how large a weight may be, 1 to 2^40, and vertices times kinds, and one
+ * more, times that is below 2^63. An operation whose weight or amount is past it, or the sum that it would leave, is counted as
+ * overflowed: it changes nothing but that its names are there.
+ *
+ * `size` is sizeof(misteluk_limits). A later library may know more fields: it takes a program's struct as it was when the program
+ * was compiled, and neither reads nor writes past its end. This library also takes one that ends before `weight`. */
 typedef struct {
+    size_t size;
     uint32_t names, kinds, batches;
+    uint64_t weight;
 } misteluk_limits;
+
+/* What a misteluk_limits begins with: the limits of a desk that is opened without its own. */
+#define MISTELUK_LIMITS {sizeof(misteluk_limits), 65536, 64, 65536, (uint64_t)1 << 40}
+
+/* Operations in columns of one length: their sorts, MISTELUK_INSERT to MISTELUK_EXPIRE, and the numbers of their kinds in one
+ * dictionary of names, of sources and targets in another. The name of number n are the bytes of its text from ends[n - 1], or from
+ * 0, to below ends[n]. Names that no operation has aren't looked at, nor are a removal's weight and time, nor of an expiry
+ * anything but its time. `size` is sizeof(misteluk_columns), as of limits; no pointer is NULL. */
+typedef struct {
+    size_t size;
+    const char *kind_text;
+    size_t kind_text_length;
+    const uint64_t *kind_ends;
+    size_t kind_ends_length;
+    const char *text;
+    size_t text_length;
+    const uint64_t *ends;
+    size_t ends_length;
+    const uint8_t *operations;
+    size_t operations_length;
+    const uint32_t *kinds;
+    size_t kinds_length;
+    const uint32_t *sources;
+    size_t sources_length;
+    const uint32_t *targets;
+    size_t targets_length;
+    const int64_t *weights;
+    size_t weights_length;
+    const uint64_t *times;
+    size_t times_length;
+} misteluk_columns;
+
+/* Columns of one length that edges are written to. `size` is sizeof(misteluk_edge_columns), as of limits; no pointer is NULL. */
+typedef struct {
+    size_t size;
+    uint32_t *kinds;
+    size_t kinds_length;
+    uint32_t *sources;
+    size_t sources_length;
+    uint32_t *targets;
+    size_t targets_length;
+    int64_t *weights;
+    size_t weights_length;
+    uint64_t *firsts;
+    size_t firsts_length;
+    uint64_t *recents;
+    size_t recents_length;
+} misteluk_edge_columns;
 
 /* What became of a batch's operations, each counted once but an expiry, which counts the edges that it took away. */
 typedef struct {
@@ -118,13 +181,17 @@ typedef struct {
 
 /* Returns MISTELUK_INTERFACE as the library was made. */
 uint32_t misteluk_interface(void);
+/* Returns MISTELUK_VERSION as the library was made. */
+uint32_t misteluk_library_version(void);
+/* Writes what a code says in English, and a 0 after it; also of a number that is no code. BAD_LENGTH where it has no room. */
+uint32_t misteluk_code_text(uint32_t code, char *text, size_t text_length);
 
 /* Batches */
 
 /* Makes an empty batch. MEMORY, HELD_ALREADY. */
 uint32_t misteluk_batch_new(misteluk_batch *out);
-/* Ends a batch with all that it has. A handle that holds nothing may be given. */
-void misteluk_batch_free(misteluk_batch batch);
+/* Ends a batch with all that it has, and leaves the handle empty. One that holds nothing may be given. */
+void misteluk_batch_free(misteluk_batch *batch);
 /* Tells how many operations a batch has. NO_HANDLE. */
 uint32_t misteluk_batch_length(misteluk_batch *batch, uint64_t *out);
 /* Appends an insertion: the edge is added, or the weight of the one that is there is replaced.
@@ -139,27 +206,14 @@ uint32_t misteluk_batch_remove(misteluk_batch *batch, const char *kind, size_t k
     size_t source_length, const char *target, size_t target_length);
 /* Appends an expiry: each edge whose recent time is before this one is taken away. NO_HANDLE, BAD_TIME, BATCH_FULL, or MEMORY. */
 uint32_t misteluk_batch_expire(misteluk_batch *batch, uint64_t time);
-/* Appends operations of any sort, MISTELUK_INSERT to MISTELUK_EXPIRE, from place `*done` of the columns on: all that there are,
- * or as many as the batch has room for. `*done` becomes the first place that isn't in, where one goes on with the next batch; one
- * past the last place stays as it is, and nothing is appended. Kinds are numbers in one dictionary of names, sources and targets
- * in another: the name of number n are the bytes of its text from ends[n - 1], or from 0, to below ends[n]. Names that no
- * operation has aren't looked at, nor are a removal's weight and time, nor of an expiry anything but its time. Where an operation
- * is refused, the batch is as it was, with none of the call's operations, and `*done` is the place of the first that is refused.
- * NO_HANDLE; BAD_LENGTH where the columns differ; of an operation BAD_NUMBER, also of a sort that there is none of, BAD_NAME,
- * BAD_WEIGHT, BAD_TIME in this order; or MEMORY. After NO_HANDLE, BAD_LENGTH and MEMORY `*done` is as it was, so that the same
- * call can be made again. */
-uint32_t misteluk_batch_columns(misteluk_batch *batch, const char *kind_text, size_t kind_text_length, const uint64_t *kind_ends,
-    size_t kind_ends_length, const char *text, size_t text_length, const uint64_t *ends, size_t ends_length,
-    const uint8_t *operations, size_t operations_length, const uint32_t *kinds, size_t kinds_length, const uint32_t *sources,
-    size_t sources_length, const uint32_t *targets, size_t targets_length, const int64_t *weights, size_t weights_length,
-    const uint64_t *times, size_t times_length, uint64_t *done);
-/* The same of a batch that may have as many operations as `limit` says, 1 to MISTELUK_MOST_OPERATIONS. A large batch is applied in
- * less time than the same operations in many, and is one version. BAD_LIMITS, or as above. */
-uint32_t misteluk_batch_columns_within(misteluk_batch *batch, uint32_t limit, const char *kind_text, size_t kind_text_length,
-    const uint64_t *kind_ends, size_t kind_ends_length, const char *text, size_t text_length, const uint64_t *ends,
-    size_t ends_length, const uint8_t *operations, size_t operations_length, const uint32_t *kinds, size_t kinds_length,
-    const uint32_t *sources, size_t sources_length, const uint32_t *targets, size_t targets_length, const int64_t *weights,
-    size_t weights_length, const uint64_t *times, size_t times_length, uint64_t *done);
+/* Appends operations of any sort from place `*done` of the columns on: all that there are, or as many as there is room for in a
+ * batch of `limit` operations, 1 to MISTELUK_MOST_OPERATIONS. (A large batch is applied in less time than the same operations in
+ * many, and is one version.) `*done` becomes the first place that isn't in, where one goes on with the next batch; one past the
+ * last place stays as it is, and nothing is appended. Where an operation is refused, the batch is as it was, with none of the
+ * call's operations, and `*done` is the place of the first that is refused. BAD_SIZE; BAD_LIMITS; NO_HANDLE; BAD_LENGTH where the
+ * columns differ; of an operation BAD_NUMBER, also of a sort that there is none of, BAD_NAME, BAD_WEIGHT, BAD_TIME in this order;
+ * or MEMORY. After MEMORY and the codes before BAD_NUMBER `*done` is as it was, so that the same call can be made again. */
+uint32_t misteluk_batch_columns(misteluk_batch *batch, const misteluk_columns *columns, uint32_t limit, uint64_t *done);
 
 /* The desk */
 
@@ -167,20 +221,13 @@ uint32_t misteluk_batch_columns_within(misteluk_batch *batch, uint32_t limit, co
  * other desk of the program was opened with: the desk's holds have it, and no desk of another number takes them back.
  * BAD_BLOCKS, HELD_ALREADY, MEMORY. */
 uint32_t misteluk_desk_new(uint64_t desk_number, uint32_t blocks, misteluk_desk *out);
-/* The same under limits of one's own, which the desk keeps, also behind a rebase. A block takes memory when it is first used.
- * BAD_LIMITS, BAD_BLOCKS, HELD_ALREADY, MEMORY. */
+/* The same under limits of one's own, which the desk keeps, also after a rebase. A block takes memory when it is first used.
+ * BAD_SIZE, BAD_LIMITS, BAD_BLOCKS, HELD_ALREADY, MEMORY. */
 uint32_t misteluk_desk_new_within(uint64_t desk_number, const misteluk_limits *limits, uint32_t blocks, misteluk_desk *out);
-/* The same with a limit of weights, 1 to 2^40. Vertices times kinds, and one more, times that limit is below 2^63. An operation
- * whose weight or amount is past it, or the sum that it would leave, is counted as overflowed: it changes nothing but that its
- * names are there. BAD_LIMITS, BAD_BLOCKS, HELD_ALREADY, MEMORY. */
-uint32_t misteluk_desk_new_within_weight(uint64_t desk_number, const misteluk_limits *limits, uint64_t weight, uint32_t blocks,
-    misteluk_desk *out);
-/* Tells the limits of a desk. NO_HANDLE. */
+/* Tells the limits of a desk, as far as the struct has them, whose `size` the caller sets. NO_HANDLE, BAD_SIZE. */
 uint32_t misteluk_desk_limits(misteluk_desk *desk, misteluk_limits *out);
-/* Tells how large the weights of a desk may be. NO_HANDLE. */
-uint32_t misteluk_desk_weight(misteluk_desk *desk, uint64_t *out);
-/* Ends a desk. Versions that were held answer on, until they are freed. A handle that holds nothing may be given. */
-void misteluk_desk_free(misteluk_desk desk);
+/* Ends a desk, as a batch. Versions that were held answer on, until they are freed. */
+void misteluk_desk_free(misteluk_desk *desk);
 /* Applies a batch, operation after operation, and empties it. NO_HANDLE, BATCHES_FULL, NAMES_FULL, KINDS_FULL, BLOCKS_FULL in
  * this order, or MEMORY; the desk and the batch are as they were then. */
 uint32_t misteluk_desk_apply(misteluk_desk *desk, misteluk_batch *batch, misteluk_counts *counts);
@@ -223,8 +270,8 @@ uint32_t misteluk_desk_rebase(misteluk_desk *desk);
 
 /* Makes a second handle on the same version, as for another thread. NO_HANDLE, HELD_ALREADY, MEMORY. */
 uint32_t misteluk_version_clone(misteluk_version *version, misteluk_version *out);
-/* Lets a version go. A handle that holds nothing may be given. */
-void misteluk_version_free(misteluk_version version);
+/* Lets a version go, as a batch. */
+void misteluk_version_free(misteluk_version *version);
 /* Tells its sizes. NO_HANDLE. */
 uint32_t misteluk_version_size(misteluk_version *version, misteluk_size *out);
 /* Tells the number of a vertex. NO_HANDLE, NO_VERTEX. */
@@ -253,19 +300,17 @@ uint32_t misteluk_version_levels(misteluk_version *version, const misteluk_view 
 uint32_t misteluk_version_labels(misteluk_version *version, const misteluk_view *view, uint32_t *labels, size_t labels_length);
 /* For each vertex: its core number (Seidman 1983) over the view, direction and kind ignored. As above. */
 uint32_t misteluk_version_cores(misteluk_version *version, const misteluk_view *view, uint32_t *cores, size_t cores_length);
-/* Writes the edges of one source that the view lets through, in the order of its row, into columns of one length. `count` tells
- * how many there are; where the columns have fewer places nothing is written and the code is BAD_LENGTH, with `count` told.
- * NO_HANDLE, NO_KIND, NO_VERTEX, BAD_LENGTH. */
-uint32_t misteluk_version_row(misteluk_version *version, const misteluk_view *view, uint32_t source, uint32_t *kinds,
-    size_t kinds_length, uint32_t *targets, size_t targets_length, int64_t *weights, size_t weights_length, uint64_t *firsts,
-    size_t firsts_length, uint64_t *recents, size_t recents_length, uint64_t *count);
+/* Writes the edges of one source that the view lets through, in the order of its row, into all columns but the sources, which may
+ * have any length. `count` tells how many there are; where the columns have fewer places nothing is written and the code is
+ * BAD_LENGTH, with `count` told. BAD_SIZE, NO_HANDLE, NO_KIND, NO_VERTEX, BAD_LENGTH. */
+uint32_t misteluk_version_row(misteluk_version *version, const misteluk_view *view, uint32_t source, misteluk_edge_columns *into,
+    uint64_t *count);
 /* Writes the edges that the view lets through of the sources from `*source` on, source by source, each one's whole row, as many
  * as the columns hold. `count` tells how many were written, and `*source` is the first source that isn't in: the number of
- * vertices where all are. One that is past all vertices stays as it is, and nothing is written. NO_HANDLE, NO_KIND, BAD_LENGTH
- * where the columns differ or not even the next row fits (then `count` tells how long it is). */
-uint32_t misteluk_version_edges(misteluk_version *version, const misteluk_view *view, uint32_t *source, uint32_t *kinds,
-    size_t kinds_length, uint32_t *sources, size_t sources_length, uint32_t *targets, size_t targets_length, int64_t *weights,
-    size_t weights_length, uint64_t *firsts, size_t firsts_length, uint64_t *recents, size_t recents_length, uint64_t *count);
+ * vertices where all are. One that is past all vertices stays as it is, and nothing is written. BAD_SIZE, NO_HANDLE, NO_KIND,
+ * BAD_LENGTH where the columns differ or not even the next row fits (then `count` tells how long it is). */
+uint32_t misteluk_version_edges(misteluk_version *version, const misteluk_view *view, uint32_t *source, misteluk_edge_columns *into,
+    uint64_t *count);
 
 #ifdef __cplusplus
 }

@@ -1,20 +1,57 @@
-"""How a shared and a static library are made of what the toolchain compiles: by its own compiler, linker and archiver."""
+"""How a shared and a static library are made of what the toolchain compiles: by its own compiler, linker and archiver; and what
+stands beside them for who links with them."""
 import os
 import pathlib
 import re
 
 TOP = pathlib.Path(__file__).resolve().parent.parent
-HEADER, EXPORTS = TOP / "include/misteluk.h", TOP / "include/misteluk.map"
+HEADER = TOP / "include/misteluk.h"
 # A function of the crate that C may call, as `rt try` lowers it: what it returns, its name within, its own, its parameters.
 EXPORTED = re.compile(r'(?m)^define internal (?:noundef )?(\w+) (@"misteluk_c::(?:\w+::)*(misteluk_\w+)")\((.*?)\)')
 SHARED = """-shared --gc-sections --no-undefined --no-allow-shlib-undefined --build-id=none -z now -z relro -z noexecstack
-    -soname libmisteluk.so""".split()
+""".split()
+# What the shared library exports: the functions of the header, and nothing else, in a version of the interface's number.
+EXPORTS = "MISTELUK_{number} {{ global: misteluk_*; local: *; }};\n"
+PACKAGE = """prefix=${{pcfiledir}}/{prefix}
+
+Name: misteluk
+Description: A store of a graph that changes in batches, and versions of it that stay as they were
+Version: {version}
+Cflags: -I${{prefix}}/include
+Libs: -L${{prefix}}/{libraries} -lmisteluk
+"""
 
 
 def declared():
     """The functions of the header."""
     plain = re.sub(r"/\*.*?\*/", " ", HEADER.read_text(encoding="utf-8"), flags=re.S)
     return set(re.findall(r"\b(misteluk_\w+)\(", plain))
+
+
+def number(name):
+    """A number that the header defines."""
+    return int(re.search(rf"(?m)^#define MISTELUK_{name} (\d+)$", HEADER.read_text(encoding="utf-8"))[1])
+
+
+def soname():
+    """The name by which a program that is linked to the shared library finds it: only one of the same interface has it."""
+    return f"libmisteluk.so.{number('INTERFACE')}"
+
+
+def package(prefix, libraries):
+    """What pkg-config reads: from its folder the way to the one that has `include`, and from there to the libraries."""
+    version = number("VERSION")
+    told = ".".join(map(str, (version // 10_000, version // 100 % 100, version % 100)))
+    return PACKAGE.format(prefix=prefix, libraries=libraries, version=told)
+
+
+def put_beside(library):
+    """Writes what stands beside a shared library in a clone: its other name, and what pkg-config reads."""
+    folder = library.parent
+    other = folder / soname()
+    other.unlink(missing_ok=True)
+    other.symlink_to(library.name)
+    (folder / "misteluk.pc").write_text(package(os.path.relpath(TOP, folder), os.path.relpath(folder, TOP)))
 
 
 def with_exports(text):
@@ -48,7 +85,10 @@ class Linker:
         script = [f"create {self.static}", f"addlib {memory}"]
         script += [f"{'addlib' if str(it).endswith('.a') else 'addmod'} {it}" for it in objects] + ["save", "end"]
         (self.build.room / "archive").write_text("\n".join(script) + "\n")
+        exports = self.build.room / "exports"
+        exports.write_text(EXPORTS.format(number=number("INTERFACE")))
+        named = ["-soname", soname(), "--version-script", exports]
         within = ["--whole-archive", *objects, "--no-whole-archive", memory, f"{lib}/libc.so.6"]
-        return (self.build.run(f"{bin}/ld.lld", *SHARED, "--version-script", EXPORTS, "-o", self.shared, *within)
+        return (self.build.run(f"{bin}/ld.lld", *SHARED, *named, "-o", self.shared, *within)
                 and self.build.run(f"{bin}/llvm-ar", "-M", given=self.build.room / "archive")
                 and os.path.exists(self.static))

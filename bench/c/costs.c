@@ -14,7 +14,7 @@ int strcmp(const char *one, const char *other);
 void exit(int status);
 
 static const misteluk_view every = {0, UINT64_MAX, MISTELUK_ANY_KIND};
-static const misteluk_limits limits = {VERTICES, 1, UINT32_MAX};
+static const misteluk_limits limits = {sizeof limits, VERTICES, 1, UINT32_MAX, (uint64_t)1 << 40};
 static const uint64_t kind_end = 1;
 static misteluk_desk desk;
 static misteluk_batch batch;
@@ -25,6 +25,8 @@ static uint64_t ends[VERTICES], times[VERTICES], firsts[VERTICES], recents[VERTI
 static uint32_t kinds[VERTICES], sources[VERTICES], targets[VERTICES], outgoing[VERTICES], incoming[VERTICES];
 static int64_t weights[VERTICES], sums[VERTICES];
 static uint8_t additions[VERTICES];
+static misteluk_edge_columns into = {sizeof into, kinds, VERTICES, outgoing, VERTICES, incoming, VERTICES, sums, VERTICES, firsts,
+    VERTICES, recents, VERTICES};
 static int is_watched;
 
 static void must_be(uint32_t wanted, uint32_t code)
@@ -77,10 +79,9 @@ static uint32_t append_columns(uint32_t kind, uint32_t from, uint32_t count)
 {
     done = 0;
     kinds[from] = kind;
-    return misteluk_batch_columns_within(&batch, MISTELUK_MOST_OPERATIONS, "k", 1, &kind_end, 1, text, sizeof text, ends,
-        VERTICES, additions + from, count, kinds + from, count, sources + from, count,
-        targets + from, count, weights + from, count,
-        times + from, count, &done);
+    misteluk_columns columns = {sizeof columns, "k", 1, &kind_end, 1, text, sizeof text, ends, VERTICES, additions + from, count,
+        kinds + from, count, sources + from, count, targets + from, count, weights + from, count, times + from, count};
+    return misteluk_batch_columns(&batch, &columns, MISTELUK_MOST_OPERATIONS, &done);
 }
 
 static void apply(void)
@@ -103,8 +104,7 @@ static void release(uint32_t seat)
 {
     if (!versions[seat].at) return;
     must(misteluk_desk_release(&desk, &holds[seat]));
-    misteluk_version_free(versions[seat]);
-    versions[seat].at = 0;
+    misteluk_version_free(&versions[seat]);
 }
 
 /* What the turns of a script begin with. */
@@ -131,8 +131,7 @@ static void into_a_desk(uint32_t turn)
     (void)turn;
     insert_columns();
     watch();
-    misteluk_desk_free(desk);
-    desk.at = 0;
+    misteluk_desk_free(&desk);
 }
 
 static void of_a_batch(uint32_t turn)
@@ -168,9 +167,8 @@ static void session(uint32_t turn)
     must(misteluk_version_clone(&versions[seat], &copy));
     must(misteluk_version_vertex(&copy, name_of(at), NAME, &vertex));
     must(misteluk_version_edge(&copy, 0, sources[at], vertex, &edge));
-    must(misteluk_version_row(&copy, &every, sources[at], kinds, VERTICES, outgoing, VERTICES, sums, VERTICES, firsts, VERTICES,
-        recents, VERTICES, &done));
-    misteluk_version_free(copy);
+    must(misteluk_version_row(&copy, &every, sources[at], &into, &done));
+    misteluk_version_free(&copy);
 }
 
 static void large_version(uint32_t turn)
@@ -181,7 +179,7 @@ static void large_version(uint32_t turn)
     hold(0);
     must(misteluk_version_size(&versions[0], &size));
     must(misteluk_version_clone(&versions[0], &copy));
-    misteluk_version_free(copy);
+    misteluk_version_free(&copy);
     release(0);
 }
 
@@ -197,8 +195,7 @@ static void edges(uint32_t turn)
 {
     uint32_t source = 0;
     (void)turn;
-    must(misteluk_version_edges(&versions[0], &every, &source, kinds, VERTICES, outgoing, VERTICES, incoming, VERTICES, sums,
-        VERTICES, firsts, VERTICES, recents, VERTICES, &done));
+    must(misteluk_version_edges(&versions[0], &every, &source, &into, &done));
 }
 
 static void rebase(uint32_t turn)
@@ -214,8 +211,7 @@ static void refusals(uint32_t turn)
     must(misteluk_batch_insert(&batch, "k", 1, name_of(turn % VERTICES), NAME, "another", 7, 1, 1));
     must_be(MISTELUK_NAMES_FULL, misteluk_desk_apply(&desk, &batch, &counts));
     must_be(MISTELUK_BAD_NUMBER, append_columns(1, turn % (VERTICES - FEW), FEW));
-    misteluk_batch_free(batch);
-    batch.at = 0;
+    misteluk_batch_free(&batch);
     must(misteluk_batch_new(&batch));
 }
 

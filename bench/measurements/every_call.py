@@ -17,7 +17,7 @@ import numpy
 
 from bench import calls
 from bench.stores.asked import Asked
-from bench.stores.caller import View, fields
+from bench.stores.caller import View
 from bench.stores.changed import Changed
 from bench.stores.loaded import BATCHES, Loaded
 from misteluk.engine import interface
@@ -91,14 +91,11 @@ class Run(Loaded):
 
     def rebase(self) -> None:
         """The desk begins anew over the last version, under its limits."""
-        limits = interface.Limits()
         self.call("desk_rebase", self.desk)
         stat = self.call.stat(self.desk)
         self.checks.equal("counts", (stat.version, stat.vertices, stat.kinds, stat.edges, stat.blocks_retired),
                           (0, self.count, 2, len(self.after), 0))
-        self.call("desk_limits", self.desk, limits)
-        self.checks.equal("limits", fields(limits), (self.count + 1, 3, BATCHES))
-        self.checks.equal("the limit of weights", self.call.weight(self.desk), 1 << 40)
+        self.checks.equal("limits", self.call.limits(self.desk), (self.count + 1, 3, BATCHES, 1 << 40))
         again = self.call.hold(self.desk)
         Asked(self.checks, self.call, again[0], self.after).edges()
         self.call.release(self.desk, again)

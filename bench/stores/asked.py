@@ -7,7 +7,8 @@ from typing import Any
 import numpy
 
 from bench.checks import Checks
-from bench.stores.caller import COLUMNS, Caller, Names, View
+from bench.calls import written_to
+from bench.stores.caller import COLUMNS, Caller, Names, View, words_of
 from bench.stores.wanted import Wanted, in_order
 from misteluk.engine import interface
 from misteluk.engine.interface import Code
@@ -55,12 +56,12 @@ class Asked:
         """A source's edges, and that columns of one place less are refused, with the number told."""
         wanted, count = Wanted(self.wanted.names, self.wanted.row(source)).seen(*seen), c_uint64()
         found = [numpy.zeros(len(wanted), it) for it in COLUMNS]
-        short = [it[1:] for place, it in enumerate(found) if place != 1]
+        short = written_to(words_of(*(it[1:] for it in found)))
         words = self.version, seen.given(), source
-        self.checks.refused("columns too short", Code.BAD_LENGTH, self.call, "version_row", *words, *short, count)
+        self.checks.refused("columns too short", Code.BAD_LENGTH, self.call, "version_row", *words, short, count)
         self.checks.equal("how many places it takes", count.value, len(wanted))
         found[1][:] = source
-        self.call("version_row", *words, *(it for place, it in enumerate(found) if place != 1), count)
+        self.call("version_row", *words, written_to(words_of(*found)), count)
         self.checks.equal(f"the row of {source} of {seen}", (count.value, *in_order(tuple(found))),
                           (len(wanted), *wanted.table))
 

@@ -1,12 +1,12 @@
 """Calls of the C library by their names, with arrays of numpy and with bytes in place of addresses and lengths."""
 from __future__ import annotations
 
-from ctypes import byref, c_uint32, c_uint64
+from ctypes import byref, c_uint32, c_uint64, sizeof
 from typing import Any, List, NamedTuple, Optional, Set, Tuple
 
 import numpy
 
-from bench.calls import Refused
+from bench.calls import Refused, limits, written_to
 from misteluk.engine import interface
 from misteluk.engine.interface import ANY_KIND, Code
 
@@ -30,6 +30,22 @@ def fields(told: Any) -> Tuple[int, ...]:
     return tuple(getattr(told, name) for name, _ in told._fields_)
 
 
+def words_of(*given: Any) -> List[Any]:
+    """What a call is given in place of arrays and bytes: where they stand, and their lengths."""
+    words: List[Any] = []
+    for it in given:
+        is_array = isinstance(it, numpy.ndarray)
+        words += [it.ctypes.data, len(it)] if is_array else [it, len(it)] if isinstance(it, bytes) else [it]
+    return words
+
+
+def operations(*given: Any) -> interface.Columns:
+    """Operations in columns: both dictionaries, and a column of each sort of number. They live as long as this."""
+    found = interface.Columns(sizeof(interface.Columns), *words_of(*given))
+    found.kept = given
+    return found
+
+
 class Caller:
     """Calls the library, and keeps which functions it called. A code that isn't OK raises `Refused`. The one that is called
     `wrong` isn't called, and answers OK: a run in which that makes no difference compares nothing of that function."""
@@ -39,10 +55,7 @@ class Caller:
         self.called: Set[str] = set()
 
     def __call__(self, name: str, *given: Any) -> None:
-        words: List[Any] = []
-        for it in given:
-            is_array = isinstance(it, numpy.ndarray)
-            words += [it.ctypes.data, len(it)] if is_array else [it, len(it)] if isinstance(it, bytes) else [it]
+        words = words_of(*given)
         self.called.add(name)
         if name == self.wrong:
             return
@@ -74,19 +87,16 @@ class Caller:
         self("version_free", held[0])
 
     def opened(self, names: int, kinds: int, batches: int, blocks: int, weight: Optional[int] = None) -> Any:
-        """A desk under limits, one of which is on weights where that is said."""
-        desk, limits = interface.Desk(), interface.Limits(names, kinds, batches)
-        if weight is None:
-            self("desk_new_within", 1, limits, blocks, desk)
-        else:
-            self("desk_new_within_weight", 1, limits, weight, blocks, desk)
+        """A desk under limits, on weights the greatest where none is said."""
+        desk = interface.Desk()
+        self("desk_new_within", 1, limits(names, kinds, batches, 1 << 40 if weight is None else weight), blocks, desk)
         return desk
 
-    def weight(self, desk: Any) -> int:
-        """How large the weights of a desk may be."""
-        most = c_uint64()
-        self("desk_weight", desk, most)
-        return most.value
+    def limits(self, desk: Any) -> Tuple[int, ...]:
+        """How many vertices, kinds and batches a desk may have, and how large weights may be."""
+        found = limits(0, 0, 0, 0)
+        self("desk_limits", desk, found)
+        return fields(found)[1:]
 
     def collect(self, desk: Any) -> int:
         freed = c_uint64()
@@ -107,7 +117,7 @@ class Caller:
         """All edges of a view, as the library has them: kinds, sources, targets, weights, first and recent times."""
         found = [numpy.zeros(max(room, 1), it) for it in COLUMNS]
         source, count = c_uint32(), c_uint64()
-        self("version_edges", version, seen.given(), source, *found, count)
+        self("version_edges", version, seen.given(), source, written_to(words_of(*found)), count)
         return tuple(it[:count.value] for it in found)
 
     def load(self, desk: Any, kind: bytes, names: "Names", *columns: Any) -> Tuple[int, int]:

@@ -1,16 +1,16 @@
 """Operations of each sort that a batch applies to a large store, and the graph that they leave, in columns of numpy."""
 from __future__ import annotations
 
-from ctypes import byref, c_uint64
+from ctypes import c_uint64
 from typing import Any, List, Tuple
 
 import numpy
 
-from bench.stores.caller import Caller, Names
+from bench.stores.caller import Caller, Names, operations
 from bench.stores.wanted import Wanted, in_order
 from misteluk.engine import interface
 
-KINDS = b"ef", byref((c_uint64 * 2)(1, 2)), 2
+KINDS = b"ef", numpy.arange(1, 3, dtype="u8")
 
 
 class Changed:
@@ -51,17 +51,14 @@ class Changed:
         self.call("batch_expire", self.batch, time)
         self.gone |= self.table[5] < numpy.uint64(time)
 
-    def columns(self, sort: int, places: Any, limit: int = 0) -> None:
+    def columns(self, sort: int, places: Any, limit: int = interface.OPERATIONS) -> None:
         """Removals, or insertions of weight 5, of edges that are there, by columns."""
         count = len(places)
         weights, times = numpy.full(count, 5, "i8"), numpy.full(count, self.now, "u8")
         kinds, sources, targets = (numpy.ascontiguousarray(it[places]) for it in self.table[:3])
         self.done.value = 0
-        words = *KINDS, *self.names.words, numpy.full(count, sort, "u1"), kinds, sources, targets, weights, times, self.done
-        if limit:
-            self.call("batch_columns_within", self.batch, limit, *words)
-        else:
-            self.call("batch_columns", self.batch, *words)
+        told = operations(*KINDS, *self.names.words, numpy.full(count, sort, "u1"), kinds, sources, targets, weights, times)
+        self.call("batch_columns", self.batch, told, limit, self.done)
         if sort == interface.REMOVE:
             self.gone[places] = True
         else:

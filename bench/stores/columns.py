@@ -4,10 +4,10 @@ from __future__ import annotations
 import array
 import random
 import threading
-from ctypes import CDLL, byref, c_size_t, c_uint32, c_uint64, c_void_p
+from ctypes import CDLL, byref, c_uint32, c_uint64
 from typing import Any, Dict, List, Tuple
 
-from bench.calls import VIEW, at, columns, must
+from bench.calls import VIEW, at, columns, must, written_to
 from bench.places import BLOCKS, library
 from misteluk.engine import interface
 from misteluk.engine.interface import NOT_REACHED, Code
@@ -67,7 +67,7 @@ class Store:
             code = self.library.version_vertex(self.version, name.encode(), len(name), number)
             self.numbers.append(number.value if code == Code.OK else None)
         self.degree, self.tables = columns("IIq", self.count), columns("III", self.count)
-        self.all, self.row = columns("IIIqQQ", self.given.edges), columns("IIqQQ", self.given.edges)
+        self.all, self.row = columns("IIIqQQ", self.given.edges), columns("IIIqQQ", self.given.edges)
 
     def degrees(self) -> None:
         words = [it for each in self.degree for it in (at(each), self.count)]
@@ -84,8 +84,9 @@ class Store:
 
     def out_neighbors(self) -> List[Any]:
         # (words that ctypes needn't make or convert for each call)
-        count, found, targets = c_uint64(), [], self.row[1]
-        words = [it for each in self.row for it in (c_void_p(at(each)), c_size_t(self.given.edges))] + [byref(count)]
+        count, found, targets = c_uint64(), [], self.row[2]
+        into = written_to([it for each in self.row for it in (at(each), self.given.edges)])
+        words = byref(into), byref(count)
         ask, held = CDLL(library()).misteluk_version_row, (byref(self.version), byref(VIEW))
         for place in self.given.asked:
             number = self.numbers[place]
@@ -98,7 +99,7 @@ class Store:
 
     def all_edges(self) -> None:
         words, count, source = [it for each in self.all for it in (at(each), self.given.edges)], c_uint64(), c_uint32()
-        must(self.library.version_edges(self.version, VIEW, source, *words, count))
+        must(self.library.version_edges(self.version, VIEW, source, written_to(words), count))
         assert (count.value, source.value) == (self.given.edges, self.count)
 
     def feed(self, count: int) -> None:

@@ -6,7 +6,7 @@ from typing import Any, Callable, List, Tuple
 
 import numpy
 
-from bench.calls import VIEW, must
+from bench.calls import VIEW, limits, must, written_to
 from bench.measuring import watch
 from misteluk.engine import interface
 from misteluk.engine.interface import Code
@@ -55,10 +55,10 @@ class Store:
         self.library, self.names, self.vertices = library, 1 << scale, 0
         self.desk, self.version, self.hold = interface.Desk(), interface.Version(), interface.Hold()
         self.counts, self.done, self.number = interface.Counts(), c_uint64(), c_uint32()
-        limits = interface.Limits(names=self.names + 2 * SINGLE + 16, kinds=1, batches=(1 << 32) - 1 if endless else 1 << 31)
+        names = self.names + 2 * SINGLE + 16
         # As large as weights may be: with more names than 2^23 less than the most that there is.
-        weight = min(1 << 40, ((1 << 63) - 1) // (limits.names + 1))
-        must(library.desk_new_within_weight(1, limits, weight, min(edges + (1 << 17), 1 << 31), self.desk))
+        own = limits(names, 1, (1 << 32) - 1 if endless else 1 << 31, min(1 << 40, ((1 << 63) - 1) // (names + 1)))
+        must(library.desk_new_within(1, own, min(edges + (1 << 17), 1 << 31), self.desk))
 
     def load(self, columns: Tuple[Any, ...]) -> List[float]:
         """Seconds of the processor for each step, after which retired blocks are freed."""
@@ -85,7 +85,6 @@ class Store:
     def let_go(self) -> None:
         must(self.library.desk_release(self.desk, self.hold))
         self.library.version_free(self.version)
-        self.version = interface.Version()
 
     def commits(self, source: str, target: str, count: int = SINGLE) -> List[float]:
         """Seconds of the processor for each of some batches of one edge, or of none where there is no name. `%d` in a name is the
@@ -121,7 +120,7 @@ class Store:
         """Reads on while rows fit into the columns, and tells how long the next one is."""
         code = Code.OK
         while code == Code.OK and source.value < self.vertices:
-            code = self.library.version_edges(self.version, VIEW, source, *words, count)
+            code = self.library.version_edges(self.version, VIEW, source, written_to(words), count)
         if code != Code.BAD_LENGTH:
             must(code)
         return count.value

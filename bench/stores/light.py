@@ -2,12 +2,13 @@
 names as there may be at all."""
 from __future__ import annotations
 
-from ctypes import byref, c_uint32, c_uint64
-from typing import Any, List, Tuple
+from ctypes import c_uint32, c_uint64
+from typing import Any, Tuple
 
 import numpy
 
-from bench.stores.caller import STEP, View, fields
+from bench.calls import written_to
+from bench.stores.caller import COLUMNS, STEP, View, fields, operations, words_of
 from bench.stores.full import WEIGHT
 from bench.stores.small_walls import BLOCKS, KINDS, MOST_NAMES, NAMES, PRODUCT, SmallWalls
 from bench.stores.walled import Walled
@@ -42,9 +43,9 @@ class Light:
     def apply(self, names: Tuple[bytes, Any], sources: Any, targets: Any, weights: Any, times: Any) -> Tuple[int, ...]:
         """What became of a batch of insertions, whose ends are places in a dictionary."""
         done, count = c_uint64(), len(sources)
-        words: List[Any] = [b"e", byref(c_uint64(1)), 1, *names, numpy.zeros(count, "u1"), numpy.zeros(count, "u4"), sources,
-                            targets, weights, times]
-        self.call("batch_columns_within", self.it.batch, interface.MOST_OPERATIONS, *words, done)
+        told = operations(b"e", numpy.ones(1, "u8"), *names, numpy.zeros(count, "u1"), numpy.zeros(count, "u4"), sources, targets,
+                          weights, times)
+        self.call("batch_columns", self.it.batch, told, interface.MOST_OPERATIONS, done)
         self.checks.equal("operations", done.value, count)
         return self.it.apply()[1:]
 
@@ -125,8 +126,9 @@ class LightHub(Light):
         self.call.release(self.it.desk, (version, hold))
 
     def row(self, version: Any) -> None:
-        found, count = [numpy.zeros(self.edges, it) for it in ("u4", "u4", "i8", "u8", "u8")], c_uint64()
-        self.call("version_row", version, View().given(), 0, *found, count)
+        found, count = [numpy.zeros(self.edges, it) for it in COLUMNS], c_uint64()
+        self.call("version_row", version, View().given(), 0, written_to(words_of(*found)), count)
+        del found[1]
         self.checks.equal("edges of the row", count.value, self.edges)
         order = numpy.argsort(found[1])
         places = numpy.arange(self.edges)
@@ -182,7 +184,7 @@ class LightWalls(SmallWalls):
         for names, kinds in ((0, 0), (NAMES, 1), *more):
             most = greatest_weight(names, kinds)
             it = self.opened(names, kinds, 1, 16, most)
-            self.checks.equal(f"{names} names, {kinds} kinds: the limit of weights", self.call.weight(it.desk), most)
+            self.checks.equal(f"{names} names, {kinds} kinds: the limit of weights", self.call.limits(it.desk)[3], most)
             it.free()
             self.checks.refused(f"a weight of {most + 1}", Code.BAD_LIMITS, self.call.opened, names, kinds, 1, 16, most + 1)
         for names, kinds, weight in ((MOST_NAMES + 1, 1, 0), (1, KINDS + 1, 0), (NAMES, 1, (1 << 64) - 1)):

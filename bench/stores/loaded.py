@@ -11,7 +11,7 @@ from bench.checks import Checks
 from bench.measuring import of_process
 from bench.places import TOP
 from bench.stores.asked import Asked
-from bench.stores.caller import Caller, Names, fields
+from bench.stores.caller import Caller, Names
 from bench.stores.changed import Changed
 from bench.stores.growing import rmat
 from bench.stores.wanted import Wanted
@@ -56,18 +56,13 @@ class Loaded:
         self.taken = -trimmed()
         self.blocks = self.edges + 3 * self.count + 1_024
         self.desk = self.call.opened(self.count + 1, 3, BATCHES, self.blocks)
-        limits, small = interface.Limits(), interface.Desk()
-        self.call("desk_limits", self.desk, limits)
-        self.checks.equal("limits", fields(limits), (self.count + 1, 3, BATCHES))
+        small = interface.Desk()
+        self.checks.equal("limits", self.call.limits(self.desk), (self.count + 1, 3, BATCHES, 1 << 40))
         self.call("desk_new", 1, 16, small)
-        self.call("desk_limits", small, limits)
-        self.checks.equal("limits where none are chosen", fields(limits), (65_536, 64, 65_536))
+        self.checks.equal("limits where none are chosen", self.call.limits(small), (65_536, 64, 65_536, 1 << 40))
         self.call("desk_free", small)
         light = self.call.opened(self.count + 1, 3, BATCHES, 16, 999)
-        found = [self.call.weight(it) for it in (light, self.desk)]
-        self.checks.equal("limits of weights", found, [999, 1 << 40])
-        self.call("desk_limits", light, limits)
-        self.checks.equal("its other limits", fields(limits), (self.count + 1, 3, BATCHES))
+        self.checks.equal("limits with one of weights", self.call.limits(light), (self.count + 1, 3, BATCHES, 999))
         self.call("desk_free", light)
         self.checks.equal("interface", self.call.interface(), interface.INTERFACE)
 

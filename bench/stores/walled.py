@@ -1,14 +1,14 @@
 """Desks at their limits: what a refusal leaves, compared with what was there before."""
 from __future__ import annotations
 
-from ctypes import byref, c_uint64
+from ctypes import c_uint64
 from typing import Any, Optional, Tuple
 
 import numpy
 
 from bench.calls import Refused
 from bench.checks import Checks
-from bench.stores.caller import Caller, Names, View, fields
+from bench.stores.caller import Caller, Names, View, fields, operations
 from misteluk.engine import interface
 from misteluk.engine.interface import Code
 
@@ -36,7 +36,6 @@ class Walled:
     def empty(self) -> None:
         """A batch that has no operations."""
         self.call("batch_free", self.batch)
-        self.batch = interface.Batch()
         self.call("batch_new", self.batch)
 
     def state(self) -> Tuple[Any, ...]:
@@ -80,15 +79,12 @@ class Walled:
             return refusal.code.name, done.value
         return "OK", done.value
 
-    def append(self, count: int, names: Names, weights: Any = None, limit: int = 0) -> int:
+    def append(self, count: int, names: Names, weights: Any = None, limit: int = interface.OPERATIONS) -> int:
         """Appends so many insertions of an edge by columns, and tells how many are in."""
         done, ones = c_uint64(), numpy.ones(count, "i8")
         zeros = numpy.zeros(count, "u4")
-        words = (b"e", byref(c_uint64(1)), 1, *names.words, numpy.zeros(count, "u1"), zeros, zeros, zeros,
-                 ones if weights is None else weights, ones.view("u8"), done)
+        told = operations(b"e", numpy.ones(1, "u8"), *names.words, numpy.zeros(count, "u1"), zeros, zeros, zeros,
+                          ones if weights is None else weights, ones.view("u8"))
         self.done = done
-        if limit:
-            self.call("batch_columns_within", self.batch, limit, *words)
-        else:
-            self.call("batch_columns", self.batch, *words)
+        self.call("batch_columns", self.batch, told, limit, done)
         return done.value

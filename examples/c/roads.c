@@ -72,7 +72,7 @@ int main(void)
     misteluk_batch batch = {0};
     misteluk_version held = {0}, last = {0};
     uint32_t code = run(&desk, &batch, &held, &last);
-    misteluk_version_free(held), misteluk_version_free(last), misteluk_batch_free(batch), misteluk_desk_free(desk);
+    misteluk_version_free(&held), misteluk_version_free(&last), misteluk_batch_free(&batch), misteluk_desk_free(&desk);
     if (code != MISTELUK_OK)
         fprintf(stderr, "refused with code %u\n", (unsigned)code);
     return (int)code;

@@ -4,6 +4,7 @@ import io
 import itertools
 import unittest
 from contextlib import redirect_stderr
+from ctypes import sizeof
 from unittest import mock
 
 from interrupting import CALLS, Scene, places
@@ -203,16 +204,16 @@ class Room(Case):
         engine = self.store().engine
         for wanted, blocks, code in (((131_071, 64, 1), 16, 0), ((131_072, 64, 1), 16, 19), ((8_388_606, 1, 1), 16, 0),
                                      ((8_388_607, 1, 1), 16, 19), ((1, 65, 1), 16, 19), ((1, 1, 1), limits.MOST_BLOCKS + 1, 9)):
-            desk = interface.Desk()
-            self.assertEqual(engine.library.desk_new_within(1, interface.Limits(*wanted), blocks, desk), code, wanted)
+            desk, given = interface.Desk(), interface.Limits(sizeof(interface.Limits), *wanted, limits.MOST_WEIGHT)
+            self.assertEqual(engine.library.desk_new_within(1, given, blocks, desk), code, wanted)
             engine.library.desk_free(desk)
         for vertices, kinds, weight, code in ((67_108_863, 64, 2_147_483_679, 0), (67_108_863, 64, 2_147_483_680, 19),
                                               (8_388_607, 1, (1 << 40) - 1, 0), (8_388_607, 1, 1 << 40, 19),
                                               (67_108_864, 1, 1, 19), (1, 1, 1 << 40, 0), (1, 1, (1 << 40) + 1, 19),
                                               (51_030_674, 3, 60_247_241_209, 0), (51_030_675, 3, 60_247_241_209, 19)):
-            desk, wanted = interface.Desk(), interface.Limits(vertices, kinds, 1)
+            desk, wanted = interface.Desk(), interface.Limits(sizeof(interface.Limits), vertices, kinds, 1, weight)
             with self.subTest(vertices=vertices, kinds=kinds, weight=weight):
-                self.assertEqual(engine.library.desk_new_within_weight(1, wanted, weight, 16, desk), code)
+                self.assertEqual(engine.library.desk_new_within(1, wanted, 16, desk), code)
                 if code:
                     self.assertRaises(ValueError, Limits(vertices, kinds, 1, weight).checked)
                 else:

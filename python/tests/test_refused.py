@@ -148,9 +148,9 @@ class Refusals(Case):
         with smaller_walls(6_400):
             for name, calls, options, operations in (
                     ("desk_apply", 0, {}, ["insert k a z 1 9"]), ("desk_rebase", 0, {"limits": Limits(batches=1)}, FIVE),
-                    ("desk_new_within_weight", 0, {}, TWENTY), ("desk_apply", 1, {}, TWENTY), ("desk_apply", 2, {}, TWENTY),
+                    ("desk_new_within", 0, {}, TWENTY), ("desk_apply", 1, {}, TWENTY), ("desk_apply", 2, {}, TWENTY),
                     ("desk_rebase", 0, {}, TWENTY), ("desk_hold", 0, {}, TWENTY),
-                    ("desk_new_within_weight", 0, {}, [f"insert z{it} a b 1 1" for it in range(9)])):
+                    ("desk_new_within", 0, {}, [f"insert z{it} a b 1 1" for it in range(9)])):
                 with self.subTest(name, calls=calls):
                     store = self.store("insert k a b 1 1", "insert k b c 1 1", **options)
                     self.give(store, operations)

@@ -5,7 +5,7 @@ import array
 import itertools
 import pathlib
 import sys
-from ctypes import Array, c_uint32, c_uint64, create_string_buffer
+from ctypes import Array, addressof, c_uint32, c_uint64, create_string_buffer, sizeof
 from typing import Any, Dict, Iterator, List, Optional, Sequence, Tuple
 
 TOP = pathlib.Path(__file__).resolve().parent.parent.parent
@@ -15,7 +15,7 @@ from misteluk.engine import interface  # noqa: E402
 from misteluk.engine.interface import ANY_KIND, NOT_REACHED, Code, Library  # noqa: E402
 
 __all__ = ["ANY_KIND", "EVER", "NOT_REACHED", "TOP", "Batch", "Code", "Desk", "Library", "Owner", "Refused", "Version", "at",
-           "column", "fields", "interface", "must", "view", "whole"]
+           "column", "columns", "edge_columns", "fields", "given", "interface", "limits", "must", "view", "whole", "written_to"]
 EVER = (0, (1 << 64) - 1)
 # A row of a table of edges: kind, source, target, weight, first and recent time.
 Row = Tuple[int, int, int, int, int, int]
@@ -45,6 +45,33 @@ def at(values: "array.array[int]") -> int:
 
 def view(kind: Optional[int] = None, window: Tuple[int, int] = EVER) -> interface.View:
     return interface.View(*window, ANY_KIND if kind is None else kind)
+
+
+def limits(names: int, kinds: int, batches: int, weight: int = 1 << 40) -> interface.Limits:
+    return interface.Limits(sizeof(interface.Limits), names, kinds, batches, weight)
+
+
+def columns(kinds: Sequence[bytes], names: Sequence[bytes], table: "Sequence[array.array[int]]", count: int) -> interface.Columns:
+    """Operations in columns, of which so many places count, as a call takes them."""
+    words = [it for each in table for it in (at(each), count)]
+    return given([*dictionary(kinds), *dictionary(names), *words])
+
+
+def given(words: Sequence[Any]) -> interface.Columns:
+    """The struct of these columns, each with its length; arrays of ctypes are taken by their place."""
+    places = [addressof(it) if isinstance(it, Array) else it for it in words]
+    found = interface.Columns(sizeof(interface.Columns), *places)
+    found.kept = words  # (what it leads to lives as long)
+    return found
+
+
+def edge_columns(table: "Sequence[array.array[int]]", count: int) -> interface.EdgeColumns:
+    """Columns for edges, of which so many places count, as a call takes them."""
+    return written_to([it for each in table for it in (at(each), count)])
+
+
+def written_to(words: Sequence[int]) -> interface.EdgeColumns:
+    return interface.EdgeColumns(sizeof(interface.EdgeColumns), *words)
 
 
 class Owner:
@@ -79,19 +106,18 @@ class Batch(Owner):
         must(self.library.batch_expire(self.handle, time))
 
     def append(self, kinds: Sequence[bytes], names: Sequence[bytes], operations: Sequence[Operation], done: int = 0,
-               limit: Optional[int] = None) -> Tuple[Code, int]:
-        """Appends operations in columns from a place on, up to a limit of the batch's own where one is given. Hands back the code
-        and the place that the call tells."""
+               limit: int = interface.OPERATIONS) -> Tuple[Code, int]:
+        """Appends operations in columns from a place on, up to the batch's limit. Hands back the code and the place that the call
+        tells."""
         # (a column is never empty here: none may be at NULL)
-        columns = [array.array(it, [op[place] for op in operations] or [0]) for place, it in enumerate("BIIIqQ")]
-        return self.append_columns(kinds, names, columns, len(operations), done, limit)
+        table = [array.array(it, [op[place] for op in operations] or [0]) for place, it in enumerate("BIIIqQ")]
+        return self.append_columns(kinds, names, table, len(operations), done, limit)
 
-    def append_columns(self, kinds: Sequence[bytes], names: Sequence[bytes], columns: "Sequence[array.array[int]]", count: int,
-                       done: int = 0, limit: Optional[int] = None) -> Tuple[Code, int]:
+    def append_columns(self, kinds: Sequence[bytes], names: Sequence[bytes], table: "Sequence[array.array[int]]", count: int,
+                       done: int = 0, limit: int = interface.OPERATIONS) -> Tuple[Code, int]:
         """The same of columns that stand ready, of which so many places count."""
-        told, words = c_uint64(done), [word for each in columns for word in (at(each), count)]
-        call, own = (self.calls.batch_columns, []) if limit is None else (self.calls.batch_columns_within, [limit])
-        code = call(self.handle, *own, *dictionary(kinds), *dictionary(names), *words, told)
+        told = c_uint64(done)
+        code = self.library.batch_columns(self.handle, columns(kinds, names, table, count), limit, told)
         return Code(code), told.value
 
     def __len__(self) -> int:
@@ -101,7 +127,6 @@ class Batch(Owner):
 
     def free(self) -> None:
         self.library.batch_free(self.handle)
-        self.handle = interface.Batch()
 
 
 class Version(Owner):
@@ -120,7 +145,6 @@ class Version(Owner):
 
     def free(self) -> None:
         self.library.version_free(self.handle)
-        self.handle = interface.Version()
 
     def vertex(self, name: bytes) -> int:
         out = c_uint32()
@@ -171,16 +195,17 @@ class Version(Owner):
 
     def row(self, seen: interface.View, source: int) -> List[Row]:
         """One source's edges, in columns that are as long as they have to be: the length is asked for with none."""
-        none, count = column("Q", 0), c_uint64()
-        code = self.calls.version_row(self.handle, seen, source, *[at(none), 0] * 5, count)
+        none, count = [column("Q", 0)] * 6, c_uint64()
+        code = self.library.version_row(self.handle, seen, source, edge_columns(none, 0), count)
         if code != Code.BAD_LENGTH:
             must(code)
-        kinds, targets, weights, firsts, recents = (column(it, count.value) for it in "IIqQQ")
-        length = count.value
-        must(self.library.version_row(self.handle, seen, source, at(kinds), length, at(targets), length, at(weights), length,
-                                      at(firsts), length, at(recents), length, count))
-        rows: Iterator[Row] = zip(kinds, [source] * length, targets, weights, firsts, recents)  # type: ignore[assignment]
-        return list(rows)
+        table = [column(it, count.value) for it in "IIIqQQ"]
+        must(self.library.version_row(self.handle, seen, source, edge_columns(table, count.value), count))
+        if any(table[1]):
+            raise AssertionError("a row writes no sources")
+        table[1] = array.array("I", [source]) * count.value
+        rows: Iterator[Row] = zip(*table)  # type: ignore[assignment]
+        return list(itertools.islice(rows, count.value))
 
     def edges(self, seen: interface.View, room: int) -> List[Row]:
         """All edges, by as many calls as columns of so many places take."""
@@ -188,8 +213,7 @@ class Version(Owner):
         source, count = c_uint32(), c_uint64()
         table = [column(it, room) for it in "IIIqQQ"]
         while source.value < self.size.vertices:
-            columns = [it for each in table for it in (at(each), room)]
-            must(self.calls.version_edges(self.handle, seen, source, *columns, count))
+            must(self.library.version_edges(self.handle, seen, source, edge_columns(table, room), count))
             rows: Iterator[Row] = zip(*table)  # type: ignore[assignment]
             found += itertools.islice(rows, count.value)
         return found
@@ -202,30 +226,22 @@ NUMBERS = itertools.count(1)
 class Desk(Owner):
     """A desk, under limits of its own where some are given: how many names, kinds and batches, and how large a weight."""
 
-    def __init__(self, library: Library, blocks: int, limits: Optional[Tuple[int, int, int]] = None,
-                 weight: Optional[int] = None) -> None:
+    def __init__(self, library: Library, blocks: int, own: Optional[Tuple[int, int, int]] = None, weight: int = 1 << 40) -> None:
         super().__init__(library)
         self.handle, number = interface.Desk(), next(NUMBERS)
-        if limits is None:
+        if own is None:
             must(library.desk_new(number, blocks, self.handle))
-        elif weight is None:
-            must(library.desk_new_within(number, interface.Limits(*limits), blocks, self.handle))
         else:
-            must(library.desk_new_within_weight(number, interface.Limits(*limits), weight, blocks, self.handle))
+            must(library.desk_new_within(number, limits(*own, weight), blocks, self.handle))
 
     def limits(self) -> Tuple[int, ...]:
-        out = interface.Limits()
+        """How many names, kinds and batches it has at most, and how large its weights are."""
+        out = limits(0, 0, 0, 0)
         must(self.library.desk_limits(self.handle, out))
-        return fields(out)
-
-    def weight(self) -> int:
-        out = c_uint64()
-        must(self.library.desk_weight(self.handle, out))
-        return out.value
+        return fields(out)[1:]
 
     def free(self) -> None:
         self.library.desk_free(self.handle)
-        self.handle = interface.Desk()
 
     def apply(self, batch: Batch) -> interface.Counts:
         counts = interface.Counts()

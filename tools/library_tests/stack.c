@@ -9,7 +9,7 @@
 enum { VERTICES = 65536, PATH = 30000, BATCH = 4096, STACK = 1 << 20, PROMISED = 48 << 10, FILL = 0xA5 };
 
 static const misteluk_view every = {0, UINT64_MAX, MISTELUK_ANY_KIND};
-static const misteluk_limits limits = {3, 2, 2};
+static const misteluk_limits limits = {sizeof limits, 3, 2, 2, 10};
 static misteluk_desk desk, small;
 static misteluk_batch batch, filled;
 static misteluk_version version, copy;
@@ -17,7 +17,7 @@ static misteluk_hold hold;
 static misteluk_counts counts;
 static misteluk_stat stat_told;
 static misteluk_size size;
-static misteluk_limits limits_told;
+static misteluk_limits limits_told = MISTELUK_LIMITS;
 static misteluk_edge edge;
 static const uint64_t kind_end = 1;
 static uint64_t ends[VERTICES], times[VERTICES], number, done;
@@ -30,24 +30,20 @@ static char text[VERTICES * 6];
 static void none(void) { }
 static void desk_new(void) { code = misteluk_desk_new(1, 65536, &desk); }
 static void desk_new_within(void) { code = misteluk_desk_new_within(2, &limits, 65536, &small); }
-static void desk_new_within_weight(void) { code = misteluk_desk_new_within_weight(3, &limits, 10, 65536, &small); }
 static void desk_limits(void) { code = misteluk_desk_limits(&desk, &limits_told); }
-static void desk_weight(void) { code = misteluk_desk_weight(&desk, &number); }
+static void code_text(void) { code = misteluk_code_text(MISTELUK_OK, text, MISTELUK_TEXT_BYTES); }
 static void batch_new(void) { code = misteluk_batch_new(&batch); }
 static void batch_insert(void) { code = misteluk_batch_insert(&batch, "k", 1, "00000", 5, "00001", 5, 1, 1); }
 static void batch_add(void) { code = misteluk_batch_add(&filled, "k", 1, "00000", 5, "00001", 5, 1, 1); }
 static void batch_remove(void) { code = misteluk_batch_remove(&filled, "k", 1, "00000", 5, "00001", 5); }
 static void batch_length(void) { code = misteluk_batch_length(&filled, &number); }
-static void fill(uint32_t limit)
+static void batch_columns(void)
 {
+    misteluk_columns columns = {sizeof columns, "k", 1, &kind_end, 1, text, VERTICES * 5, ends, VERTICES, insertions, VERTICES,
+        first_kind, VERTICES, sources, VERTICES, targets, VERTICES, weights, VERTICES, times, VERTICES};
     done = 0;
-    code = limit ? misteluk_batch_columns_within(&filled, limit, "k", 1, &kind_end, 1, text, VERTICES * 5, ends, VERTICES, insertions,
-                       VERTICES, first_kind, VERTICES, sources, VERTICES, targets, VERTICES, weights, VERTICES, times, VERTICES, &done)
-                 : misteluk_batch_columns(&filled, "k", 1, &kind_end, 1, text, VERTICES * 5, ends, VERTICES, insertions, VERTICES,
-                       first_kind, VERTICES, sources, VERTICES, targets, VERTICES, weights, VERTICES, times, VERTICES, &done);
+    code = misteluk_batch_columns(&filled, &columns, VERTICES, &done);
 }
-static void batch_columns(void) { fill(0); }
-static void batch_columns_within(void) { fill(VERTICES); }
 static void batch_expire(void) { code = misteluk_batch_expire(&batch, 1); }
 static void apply(void) { code = misteluk_desk_apply(&desk, &batch, &counts); }
 static void begin(void) { code = misteluk_desk_begin(&desk, &batch); }
@@ -74,21 +70,18 @@ static void degrees(void) { code = misteluk_version_degrees(&version, &every, ki
 static void levels(void) { code = misteluk_version_levels(&version, &every, 0, kinds, VERTICES); }
 static void labels(void) { code = misteluk_version_labels(&version, &every, kinds, VERTICES); }
 static void cores(void) { code = misteluk_version_cores(&version, &every, kinds, VERTICES); }
-static void row(void)
-{
-    code = misteluk_version_row(&version, &every, 0, kinds, VERTICES, targets, VERTICES, weights, VERTICES, ends, VERTICES, times,
-        VERTICES, &number);
-}
+static misteluk_edge_columns into = {sizeof into, kinds, VERTICES, sources, VERTICES, targets, VERTICES, weights, VERTICES, ends,
+    VERTICES, times, VERTICES};
+static void row(void) { code = misteluk_version_row(&version, &every, 0, &into, &number); }
 static void edges(void)
 {
     at = 0;
-    code = misteluk_version_edges(&version, &every, &at, kinds, VERTICES, sources, VERTICES, targets, VERTICES, weights, VERTICES,
-        ends, VERTICES, times, VERTICES, &number);
+    code = misteluk_version_edges(&version, &every, &at, &into, &number);
 }
 static void free_all(void)
 {
-    misteluk_version_free(version), misteluk_version_free(copy), misteluk_batch_free(batch), misteluk_batch_free(filled),
-        misteluk_desk_free(desk);
+    misteluk_version_free(&version), misteluk_version_free(&copy), misteluk_batch_free(&batch), misteluk_batch_free(&filled),
+        misteluk_desk_free(&desk);
 }
 
 static void *run(void *call)
@@ -145,12 +138,9 @@ int main(void)
     least = taken(none);
     measure("desk_new", desk_new);
     measure("desk_new_within", desk_new_within);
-    misteluk_desk_free(small);
-    small.at = 0;
-    measure("desk_new_within_weight", desk_new_within_weight);
-    misteluk_desk_free(small);
+    misteluk_desk_free(&small);
     measure("desk_limits", desk_limits);
-    measure("desk_weight", desk_weight);
+    measure("code_text", code_text);
     measure("batch_new", batch_new);
     for (int is_star = 0; is_star < 2; is_star++) {
         draw(is_star);
@@ -160,7 +150,6 @@ int main(void)
     measure("batch_add", batch_add);
     measure("batch_remove", batch_remove);
     measure("batch_columns", batch_columns);
-    measure("batch_columns_within", batch_columns_within);
     measure("batch_length", batch_length);
     for (int it = 0; it < BATCH - 1; it++)
         batch_insert();

@@ -80,7 +80,7 @@ class Columns(unittest.TestCase):
                 self.assertEqual(batch.append(KINDS, NAMES, rows, limit, 1), (Code.OK, limit))
                 self.assertEqual(batch.append(KINDS, NAMES, rows, limit, limit + 1), (Code.OK, limit + 1))
                 self.assertEqual(len(batch), limit + 1)
-                # (the calls that know no limit of its own stop at 4,096, and those of one operation refuse it)
+                # (a call with a smaller limit appends nothing past it, and those of one operation refuse it)
                 self.assertEqual(batch.append(KINDS, NAMES, rows, 0), (Code.OK, max(4096 - limit - 1, 0)))
                 self.assertEqual(len(batch), max(4096, limit + 1))
                 with self.assertRaises(Refused) as caught:

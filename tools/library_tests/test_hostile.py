@@ -6,7 +6,7 @@ import unittest
 from ctypes import c_uint32, c_uint64
 from typing import Any, Dict, List, Sequence, Tuple
 
-from calls import ANY_KIND, EVER, Batch, Code, Desk, at, column, fields, interface, view, whole
+from calls import ANY_KIND, EVER, Batch, Code, Desk, at, column, fields, given, interface, limits, view, whole, written_to
 from places import library
 
 GUARD = 0x5A
@@ -63,17 +63,17 @@ class Hostile(unittest.TestCase):
         held, counts, number, name = self.held.handle, interface.Counts(), c_uint64(), (b"k", 1)
         one = column("Q", 9)
         where, few = at(one), c_uint32()
+        table, into = given([*name, where, 1, *name, where, 1, *[where, 1] * 6]), written_to([where, 1] * 6)
         edge = (*name, *name, *name)
         codes = [
             it.batch_length(batch, number), it.batch_insert(batch, *edge, 1, 1), it.batch_add(batch, *edge, 1, 1),
             it.batch_remove(batch, *edge), it.batch_expire(batch, 1),
-            it.batch_columns(batch, *name, where, 1, *name, where, 1, *[where, 1] * 6, number),
-            it.batch_columns_within(batch, 1, *name, where, 1, *name, where, 1, *[where, 1] * 6, number),
+            it.batch_columns(batch, table, 1, number),
             it.desk_apply(desk, self.batch.handle, counts), it.desk_apply(self.desk.handle, batch, counts),
             it.desk_apply(desk, batch, counts), it.desk_begin(desk, self.batch.handle), it.desk_begin(self.desk.handle, batch),
             it.desk_begin(desk, batch), it.desk_finish(desk, counts), it.desk_finish(self.desk.handle, counts),
             it.desk_cancel(desk), it.desk_cancel(self.desk.handle), it.desk_collect(desk, number),
-            it.desk_stat(desk, interface.Stat()), it.desk_limits(desk, interface.Limits()), it.desk_weight(desk, number),
+            it.desk_stat(desk, interface.Stat()), it.desk_limits(desk, limits(1, 1, 1)),
             it.desk_insert_columns(desk, *name, *name, *[where, 1] * 5, counts, number),
             it.desk_hold(desk, none, interface.Hold()), it.desk_release(desk, interface.Hold()), it.desk_rebase(desk),
             it.version_clone(none, interface.Version()), it.version_size(none, interface.Size()),
@@ -82,8 +82,7 @@ class Hostile(unittest.TestCase):
             it.version_edge(none, 0, 0, 0, interface.Edge()),
             it.version_degrees(none, view(), *[where, 1] * 3), it.version_levels(none, view(), 0, where, 1),
             it.version_labels(none, view(), where, 1), it.version_cores(none, view(), where, 1),
-            it.version_row(none, view(), 0, *[where, 1] * 5, number),
-            it.version_edges(none, view(), few, *[where, 1] * 6, number),
+            it.version_row(none, view(), 0, into, number), it.version_edges(none, view(), few, into, number),
         ]
         self.assertEqual(codes, [Code.NO_HANDLE] * len(codes))
         self.assertEqual([desk.at, batch.at, none.at, number.value, few.value, *one, *fields(counts)], [None] * 3 + [0] * 18)
@@ -93,8 +92,7 @@ class Hostile(unittest.TestCase):
         copy = self.held.clone()
         kept = [self.batch.handle.at, self.desk.handle.at, held.at, copy.handle.at]
         codes = [it.batch_new(self.batch.handle), it.desk_new(9, 16, self.desk.handle),
-                 it.desk_new_within(9, interface.Limits(3, 2, 2), 16, self.desk.handle),
-                 it.desk_new_within_weight(9, interface.Limits(3, 2, 2), 10, 16, self.desk.handle),
+                 it.desk_new_within(9, limits(3, 2, 2), 16, self.desk.handle),
                  it.desk_hold(self.desk.handle, held, interface.Hold()), it.version_clone(held, copy.handle)]
         self.assertEqual(codes, [Code.HELD_ALREADY] * len(codes))
         self.assertEqual([self.batch.handle.at, self.desk.handle.at, held.at, copy.handle.at], kept)
@@ -102,7 +100,8 @@ class Hostile(unittest.TestCase):
 
     def test_no_function_is_forgotten(self) -> None:
         text = inspect.getsource(Hostile.test_handles_that_hold_nothing)
-        self.assertEqual({name for name in interface.FUNCTIONS if f"it.{name}(" not in text}, {"interface"})
+        self.assertEqual({name for name in interface.FUNCTIONS if f"it.{name}(" not in text},
+                         {"interface", "library_version", "code_text"})
 
     def test_numbers_of_blocks(self) -> None:
         for blocks in (0, 15, 65_537, (1 << 32) - 1):
@@ -114,31 +113,31 @@ class Hostile(unittest.TestCase):
 
     def test_limits_past_their_walls(self) -> None:
         desk, most = interface.Desk(), (1 << 32) - 1
-        for limits in ((1 << 26, 1, 1), (most, 1, 1), (1, 65, 1), (1, most, 1), (131_073, 64, 1), (8_388_607, 1, 1),
+        for own in ((1 << 26, 1, 1), (most, 1, 1), (1, 65, 1), (1, most, 1), (131_073, 64, 1), (8_388_607, 1, 1),
                        (1 << 25, 1 << 7, 1), (most, most, most), (0, 1, 1), (1, 0, 1), (1, 1, 0), (0, 0, 0), (most >> 6, 0, 1)):
             for blocks in (0, 16):
-                self.refuses(Code.BAD_LIMITS, self.library.desk_new_within(9, interface.Limits(*limits), blocks, desk))
+                self.refuses(Code.BAD_LIMITS, self.library.desk_new_within(9, limits(*own), blocks, desk))
         for blocks in (0, 15, 4_293_918_720, most):
-            self.refuses(Code.BAD_BLOCKS, self.library.desk_new_within(9, interface.Limits(1, 1, 1), blocks, desk))
+            self.refuses(Code.BAD_BLOCKS, self.library.desk_new_within(9, limits(1, 1, 1), blocks, desk))
         self.assertIsNone(desk.at)
-        for limits in ((8_388_606, 1, most), (131_071, 64, 1), (1, 1, 1)):
-            opened = Desk(library(), 65_537, limits)
-            self.assertEqual(opened.limits(), limits)
+        for own in ((8_388_606, 1, most), (131_071, 64, 1), (1, 1, 1)):
+            opened = Desk(library(), 65_537, own)
+            self.assertEqual(opened.limits(), (*own, 1 << 40))
             opened.free()
 
     def test_limits_of_weights(self) -> None:
         """What a sum of weights has room for: one for each vertex of each kind, and one more."""
         desk, most = interface.Desk(), 1 << 40
-        for limits, weight in (((1, 1, 1), most + 1), ((8_388_607, 1, 1), most), ((67_108_863, 1, 1), 1 << 37),
+        for own, weight in (((1, 1, 1), most + 1), ((8_388_607, 1, 1), most), ((67_108_863, 1, 1), 1 << 37),
                                ((67_108_863, 64, 1), 2_147_483_680), ((67_108_864, 1, 1), 1), ((1, 65, 1), 1), ((1, 1, 1), 0),
                                ((0, 1, 1), 1), ((1, 0, 1), 1), ((1, 1, 0), 1)):
-            self.refuses(Code.BAD_LIMITS, self.library.desk_new_within_weight(9, interface.Limits(*limits), weight, 16, desk))
-        self.refuses(Code.BAD_BLOCKS, self.library.desk_new_within_weight(9, interface.Limits(1, 1, 1), 1, 15, desk))
+            self.refuses(Code.BAD_LIMITS, self.library.desk_new_within(9, limits(*own, weight), 16, desk))
+        self.refuses(Code.BAD_BLOCKS, self.library.desk_new_within(9, limits(1, 1, 1, 1), 15, desk))
         self.assertIsNone(desk.at)
-        for limits, weight in (((1, 1, 1), 1), ((8_388_606, 1, 1), most), ((67_108_863, 1, 1), (1 << 37) - 1),
+        for own, weight in (((1, 1, 1), 1), ((8_388_606, 1, 1), most), ((67_108_863, 1, 1), (1 << 37) - 1),
                                ((67_108_863, 64, 1), 2_147_483_679)):
-            opened = Desk(library(), 16, limits, weight)
-            self.assertEqual((opened.limits(), opened.weight()), (limits, weight))
+            opened = Desk(library(), 16, own, weight)
+            self.assertEqual(opened.limits(), (*own, weight))
             opened.free()
 
     def test_a_small_limit_of_weights(self) -> None:
@@ -220,15 +219,16 @@ class Hostile(unittest.TestCase):
             self.refuses(Code.NO_KIND, it.version_levels(held, seen, 9, room, 0))
             self.refuses(Code.NO_KIND, it.version_labels(held, seen, room, 3))
             self.refuses(Code.NO_KIND, it.version_cores(held, seen, room, 3))
-            self.refuses(Code.NO_KIND, it.version_row(held, seen, 9, *[room, 1] * 5, c_uint64()))
-            self.refuses(Code.NO_KIND, it.version_edges(held, seen, c_uint32(), *[room, 1] * 6, c_uint64()))
+            self.refuses(Code.NO_KIND, it.version_row(held, seen, 9, written_to([room, 1] * 6), c_uint64()))
+            self.refuses(Code.NO_KIND, it.version_edges(held, seen, c_uint32(), written_to([room, 1] * 6), c_uint64()))
             self.refuses(Code.NO_KIND, it.version_edge(held, kind, 0, 1, out))
         self.refuses(Code.NO_KIND, it.version_edge(held, ANY_KIND, 0, 1, out))
         for vertex in (3, 65_535, 65_536, (1 << 32) - 1):
             self.refuses(Code.NO_VERTEX, it.version_edge(held, 0, vertex, 0, out))
             self.refuses(Code.NO_VERTEX, it.version_edge(held, 0, 0, vertex, out))
             self.refuses(Code.NO_VERTEX, it.version_levels(held, view(), vertex, at(column("I", 3)), 3))
-            self.refuses(Code.NO_VERTEX, it.version_row(held, view(), vertex, *[at(column("Q", 1)), 1] * 5, c_uint64()))
+            into = written_to([at(column("Q", 1)), 1] * 6)
+            self.refuses(Code.NO_VERTEX, it.version_row(held, view(), vertex, into, c_uint64()))
         self.refuses(Code.NO_EDGE, it.version_edge(held, 1, 0, 1, out))
 
     def test_windows_that_end_before_they_begin(self) -> None:
@@ -257,22 +257,24 @@ class Hostile(unittest.TestCase):
     def test_columns_of_edges_that_are_too_short(self) -> None:
         it, held, count = self.library, self.held.handle, c_uint64()
         for room in (0, 1):
-            arrays, words = table("IIqQQ", [room] * 5)
-            self.refuses(Code.BAD_LENGTH, it.version_row(held, view(), 0, *words, count))
+            arrays, words = table("IIIqQQ", [room] * 6)
+            self.refuses(Code.BAD_LENGTH, it.version_row(held, view(), 0, written_to(words), count))
             self.assertEqual(count.value, 2)
             self.assertTrue(all(it.is_left_alone() for it in arrays))
             arrays, words = table("IIIqQQ", [room] * 6)
             source = c_uint32()
-            self.refuses(Code.BAD_LENGTH, it.version_edges(held, view(), source, *words, count))
+            self.refuses(Code.BAD_LENGTH, it.version_edges(held, view(), source, written_to(words), count))
             self.assertEqual((count.value, source.value), (2, 0))
             self.assertTrue(all(it.is_left_alone() for it in arrays))
-        for kinds, call, before in (("IIqQQ", it.version_row, 0), ("IIIqQQ", it.version_edges, c_uint32())):
-            for place in range(len(kinds)):
+        for call, before in ((it.version_row, 0), (it.version_edges, c_uint32())):
+            for place in range(6):
                 for other in (2, 4):
-                    counts = [3] * len(kinds)
+                    counts = [3] * 6
                     counts[place] = other
-                    arrays, words = table(kinds, counts)
-                    self.refuses(Code.BAD_LENGTH, call(held, view(), before, *words, count))
+                    arrays, words = table("IIIqQQ", counts)
+                    # (a row has no sources)
+                    wanted = Code.OK if call is it.version_row and place == 1 else Code.BAD_LENGTH
+                    self.refuses(wanted, call(held, view(), before, written_to(words), count))
                     self.assertTrue(all(it.is_left_alone() for it in arrays))
 
     def test_edges_are_written_by_whole_rows(self) -> None:
@@ -280,11 +282,11 @@ class Hostile(unittest.TestCase):
         arrays, words = table("IIIqQQ", [2] * 6)
         told = []
         for _ in range(3):
-            self.refuses(Code.OK, it.version_edges(held, view(), source, *words, count))
+            self.refuses(Code.OK, it.version_edges(held, view(), source, written_to(words), count))
             told.append((count.value, source.value))
         self.assertEqual(told, [(2, 1), (1, 3), (0, 3)])
         source.value = 4_000_000_000
-        self.refuses(Code.OK, it.version_edges(held, view(), source, *words, count))
+        self.refuses(Code.OK, it.version_edges(held, view(), source, written_to(words), count))
         self.assertEqual((count.value, source.value), (0, 4_000_000_000))
         self.assertTrue(all(it.is_left_alone() for it in arrays))
 

@@ -1,6 +1,7 @@
 """The declarations for ctypes beside what a C compiler makes of the header: sizes, places of fields, codes and numbers."""
 import ctypes
 import pathlib
+import re
 import shutil
 import subprocess
 import tempfile
@@ -10,8 +11,10 @@ from typing import Dict, List, Type
 from calls import ANY_KIND, NOT_REACHED, TOP, Code, interface
 
 KINDS = [it for it in vars(interface).values() if isinstance(it, type) and issubclass(it, ctypes.Structure)]
-STRUCTS: Dict[str, Type[ctypes.Structure]] = {it.__name__.lower(): it for it in KINDS if it is not ctypes.Structure}
+STRUCTS: Dict[str, Type[ctypes.Structure]] = {re.sub("(?<=[a-z])(?=[A-Z])", "_", it.__name__).lower(): it for it in KINDS
+                                              if it is not ctypes.Structure}
 NUMBERS = {it.name: it.value for it in Code}
+NUMBERS |= {"VERSION": interface.VERSION, "TEXT_BYTES": interface.TEXT_BYTES, "OPERATIONS": interface.OPERATIONS}
 NUMBERS |= {"INTERFACE": interface.INTERFACE, "ANY_KIND": ANY_KIND, "NOT_REACHED": NOT_REACHED}
 NUMBERS |= {"INSERT": interface.INSERT, "ADD": interface.ADD, "REMOVE": interface.REMOVE, "EXPIRE": interface.EXPIRE}
 
@@ -32,7 +35,8 @@ def lines() -> Dict[str, int]:
 class Layout(unittest.TestCase):
     def test_structs_and_numbers_are_those_of_the_header(self) -> None:
         wanted = lines()
-        self.assertEqual(set(STRUCTS), {"desk", "batch", "version", "limits", "counts", "stat", "size", "hold", "edge", "view"})
+        self.assertEqual(set(STRUCTS), {"desk", "batch", "version", "limits", "columns", "edge_columns", "counts", "stat", "size",
+                                        "hold", "edge", "view"})
         text: List[str] = ["#include <misteluk.h>", "#include <stdio.h>", "int main(void) {"]
         text += [f'    printf("%llu\\n", (unsigned long long)({it}));' for it in wanted]
         with tempfile.TemporaryDirectory() as folder:

@@ -1,7 +1,7 @@
 """Desks under limits of their own: tiny ones, each of which refuses what is past it and leaves all as it was, and large ones."""
 import random
 import unittest
-from typing import Callable, List, Optional, Tuple
+from typing import Callable, List, Tuple
 
 from calls import Batch, Code, Desk, Operation, Refused, Version, fields, interface, view, whole
 from places import library
@@ -12,7 +12,7 @@ TINY = (3, 2, 2)
 
 
 class Limits(unittest.TestCase):
-    def open(self, blocks: int, limits: Tuple[int, int, int], weight: Optional[int] = None) -> Desk:
+    def open(self, blocks: int, limits: Tuple[int, int, int], weight: int = 1 << 40) -> Desk:
         desk, self.batch = Desk(library(), blocks, limits, weight), Batch(library())
         self.addCleanup(desk.free)
         self.addCleanup(self.batch.free)
@@ -36,7 +36,7 @@ class Limits(unittest.TestCase):
 
     def test_a_fourth_name_a_third_kind_and_a_third_batch(self) -> None:
         desk = self.open(16, TINY)
-        self.assertEqual(desk.limits(), TINY)
+        self.assertEqual(desk.limits(), (*TINY, 1 << 40))
         self.batch.insert(b"k", b"a", b"b", 1, 1)
         self.batch.insert(b"m", b"b", b"c", 2, 2)
         self.assertEqual(fields(desk.apply(self.batch)), (1, 2, 0, 0, 0, 0, 0))
@@ -57,7 +57,7 @@ class Limits(unittest.TestCase):
         # Behind two batches even an empty one is refused, until the desk begins anew; its limits stay.
         self.refuse(desk, Code.BATCHES_FULL, lambda: desk.apply(self.batch))
         desk.rebase()
-        self.assertEqual(desk.limits(), TINY)
+        self.assertEqual(desk.limits(), (*TINY, 1 << 40))
         version = self.hold(desk)
         self.assertEqual((version.names(), version.kind_names()), ([b"a", b"b", b"c"], [b"k", b"m"]))
         self.assertEqual([it[:4] for it in version.edges(view(), 8)], [(0, 0, 1, 1), (1, 1, 2, 2), (1, 2, 0, 4)])
@@ -86,7 +86,7 @@ class Limits(unittest.TestCase):
             self.assertEqual(self.batch.append([b"k"], names, past), (Code.OK, 3))
             self.assertEqual(fields(desk.apply(self.batch)), (number, 0, 0, 0, 0, 3, 0))
             desk.rebase()
-            self.assertEqual((desk.limits(), desk.weight()), ((4, 2, 9), 10))
+            self.assertEqual(desk.limits(), (4, 2, 9, 10))
         version = self.hold(desk)
         self.assertEqual(version.names(), names)
         self.assertEqual([it[:4] for it in version.edges(view(), 8)], [(0, 0, 1, 10), (0, 1, 2, -10)])
@@ -108,7 +108,7 @@ class Limits(unittest.TestCase):
         self.refuse(desk, Code.BATCHES_FULL, lambda: desk.apply(self.batch))
 
     def test_the_standard_limits_are_those_of_no_limits(self) -> None:
-        self.assertEqual(Desk(library(), 16).limits(), (65_536, 64, 65_536))
+        self.assertEqual(Desk(library(), 16).limits(), (65_536, 64, 65_536, 1 << 40))
         told: List[object] = []
         for desk in (Desk(library(), 4096), Desk(library(), 4096, (65_536, 64, 65_536))):
             chance = random.Random(7)

@@ -78,12 +78,9 @@ CALLS: "dict[str, Callable[[State], object]]" = {
     "batch_expire": lambda it: it.batch.expire(3),
     "batch_columns": lambda it: append(it.batch),
     "batch_columns of an empty one": lambda it: append_alone(it),
-    "batch_columns_within": lambda it: append(it.batch, 65_536),
     "desk_new": lambda it: it.made.append(Desk(it.library, 16)),
     "desk_new_within": lambda it: it.made.append(Desk(it.library, 65_537, (3, 2, 2))),
-    "desk_new_within_weight": lambda it: it.made.append(Desk(it.library, 65_537, (3, 2, 2), 10)),
     "desk_limits": lambda it: it.desk.limits(),
-    "desk_weight": lambda it: it.desk.weight(),
     "desk_apply": lambda it: fields(it.desk.apply(it.batch)),
     "desk_begin": lambda it: in_two_steps(it, it.desk.cancel),
     "desk_finish": lambda it: fields(in_two_steps(it, it.desk.finish)),
@@ -108,12 +105,19 @@ CALLS: "dict[str, Callable[[State], object]]" = {
     "version_kind": lambda it: it.held.kind(b"m"),
     "version_kind_names": lambda it: it.held.kind_names(),
     "version_edge": lambda it: it.held.edge(0, 0, 1),
+    "code_text": lambda it: in_words(it),
 }
 
 
-def append(batch: Batch, limit: Optional[int] = None) -> object:
+def in_words(state: State) -> object:
+    text = ctypes.create_string_buffer(interface.TEXT_BYTES)
+    must(state.library.code_text(Code.MEMORY, text, interface.TEXT_BYTES))
+    return text.value
+
+
+def append(batch: Batch) -> object:
     rows: List[Operation] = [(INSERT, 0, 0, 1, 5, 5), (ADD, 1, 1, 2, 6, 6), (REMOVE, 0, 0, 1, 0, 0), (EXPIRE, 0, 0, 0, 0, 7)]
-    code, done = batch.append([b"q", b"k"], [b"a", b"new", b"names"], rows, limit=limit)
+    code, done = batch.append([b"q", b"k"], [b"a", b"new", b"names"], rows)
     assert done == (4 if code == Code.OK else 0)
     must(code)
     return len(batch)
@@ -194,14 +198,14 @@ class Memory(unittest.TestCase):
     def test_no_call_is_forgotten(self) -> None:
         called = {name.partition(" ")[0] for name in CALLS}
         ends = {name for name in interface.FUNCTIONS if name.endswith("_free")}
-        self.assertEqual(set(interface.FUNCTIONS) - called - ends, {"interface"})
+        self.assertEqual(set(interface.FUNCTIONS) - called - ends, {"interface", "library_version"})
 
     def test_columns_that_were_refused_go_in_by_the_same_call(self) -> None:
         """Operations in columns from the third place on, in a batch with operations or none: where a request is refused the place
         stays, and the call made again leaves what it leaves where none is."""
         rows: List[Operation] = [(ADD, 0, it % 3, (it + 1) % 3, 1 << it, it) for it in range(40)]
         refused, found = 0, set()
-        for begun, limit, place in itertools.product((0, 2), (None, 65_536), range(1, 90)):
+        for begun, limit, place in itertools.product((0, 2), (interface.OPERATIONS, 65_536), range(1, 90)):
             with self.subTest(begun=begun, limit=limit, place=place):
                 desk, batch = Desk(self.failing.library, 64), Batch(self.failing.library)
                 for edge in FIRST[:begun]:

@@ -4,7 +4,7 @@ import unittest
 from ctypes import c_uint64
 from typing import Callable, List, Optional, Tuple
 
-from calls import Batch, Code, Desk, Refused, Version, fields, interface, view, whole
+from calls import Batch, Code, Desk, Refused, Version, fields, interface, limits, view, whole
 from places import library
 
 FIRST = ((b"k", b"a", b"b", 1, 5), (b"m", b"b", b"c", 2, 6))
@@ -20,8 +20,8 @@ class Phases(unittest.TestCase):
         self.batch.add(b"k", b"a", b"b", 10, 9)
         self.batch.insert(b"k", b"d", b"a", 3, 8)
 
-    def open(self, blocks: int, limits: "Optional[Tuple[int, int, int]]" = None) -> "Tuple[Desk, Batch]":
-        desk, batch = Desk(library(), blocks, limits), Batch(library())
+    def open(self, blocks: int, own: "Optional[Tuple[int, int, int]]" = None) -> "Tuple[Desk, Batch]":
+        desk, batch = Desk(library(), blocks, own), Batch(library())
         self.addCleanup(desk.free)
         self.addCleanup(batch.free)
         return desk, batch
@@ -38,7 +38,7 @@ class Phases(unittest.TestCase):
         return [
             lambda: it.desk_apply(desk, self.batch.handle, interface.Counts()), lambda: it.desk_begin(desk, self.batch.handle),
             lambda: it.desk_collect(desk, number), lambda: it.desk_stat(desk, interface.Stat()),
-            lambda: it.desk_limits(desk, interface.Limits()), lambda: it.desk_weight(desk, number),
+            lambda: it.desk_limits(desk, limits(1, 1, 1)),
             lambda: it.desk_hold(desk, none, interface.Hold()), lambda: it.desk_release(desk, hold),
             lambda: it.desk_rebase(desk), lambda: self.desk.insert_columns(b"k", [b"a"], [(0, 0, 1, 1)])[0],
         ]
@@ -67,7 +67,7 @@ class Phases(unittest.TestCase):
     def test_while_a_batch_is_ready_the_desk_takes_no_other_call(self) -> None:
         self.desk.begin(self.batch)
         at = self.desk.handle.at
-        self.assertEqual([call() for call in self.calls_of_the_desk()], [Code.NO_HANDLE] * 10)
+        self.assertEqual([call() for call in self.calls_of_the_desk()], [Code.NO_HANDLE] * 9)
         self.assertEqual((self.desk.handle.at, whole(self.held)[0]), (at, whole(self.held)[0]))
         self.assertEqual(fields(self.desk.finish()), (2, 1, 1, 0, 0, 0, 0))
         for call in (self.desk.finish, self.desk.cancel):

@@ -56,7 +56,7 @@ static void *ask(void *given)
         must(misteluk_version_labels(&mine->version, &every, found, VERTICES));
         mine->is_wrong |= memcmp(found, mine->labels, sizeof found) != 0;
     }
-    misteluk_version_free(mine->version);
+    misteluk_version_free(&mine->version);
     return NULL;
 }
 
@@ -84,8 +84,8 @@ int main(void)
     for (int it = 0; it < THREADS; it++) {
         pthread_join(threads[it], NULL);
         is_wrong |= askers[it].is_wrong;
-        misteluk_version_free(held[it]);
+        misteluk_version_free(&held[it]);
     }
-    misteluk_desk_free(desk);
+    misteluk_desk_free(&desk);
     return is_wrong;
 }

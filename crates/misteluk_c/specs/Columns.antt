@@ -1,5 +1,5 @@
 -- What the calls that take columns tell.
-use Rattle.std.specs.Prelude.{◌≡◌, ◌⊎◌, ◌≤◌, ℕ, List, Option, Some, Result, Ok, Err, IsSomeAnd}
+use Rattle.std.specs.Prelude.{◌≡◌, ◌⊎◌, ◌≤◌, ◌==◌, MatchBool, ℕ, List, Option, Some, Result, Ok, Err, IsSomeAnd}
 use Rattle.graph_types.specs.{Limits.most_operations, declared.batches.NamedOp.NamedOp}
 use Rattle.batch_columns.specs.declared.operations.OperationsError.{OperationsError}
 use Rattle.batch_columns.specs.{Dictionaries.Insertions, Operations.{OperationTable, IsExtended, RefusesOperations}}
@@ -9,6 +9,7 @@ use Rattle.desk_columns.specs.declared.columns.InsertColumnsError.{InsertColumns
 use Rattle.desk_columns.specs.declared.columns.InsertColumnsError.TheVariants as columns
 use Rattle.desk_counts.specs.declared.counts.Counts.{Counts}
 use Rattle.store_handles.specs.declared.held.Held.{Held}
+use Rattle.misteluk_c.specs.declared.appending.OperationColumns.{OperationColumns}
 use Rattle.misteluk_c.specs.{Codes.{insert_code, operations_code}, Desks.{held_desk, apply_code}, Held.{batch_in, Asks}}
 
 -- operations of columns, from a place on, are behind the own ones of a batch that may have as many as the limit; or one is refused,
@@ -28,6 +29,28 @@ abbrev pub TellsColumnsWithin : ℕ → OperationTable → ℕ → Option Held �
 TellsColumnsWithin limit t from old done new code =
     (IsOperationLimit limit × Asks (batch_in old) code (λ ops. TellsColumns limit t from ops done new code))
     ⊎ ((IsOperationLimit limit → ⊥) × (code ≡ 19) × (new ≡ old) × (done ≡ from))
+
+-- what the columns of C's struct have
+abbrev pub given_table : OperationColumns → OperationTable
+given_table lent =
+    record {
+      kind_text = lent.kind_text.now;
+      kind_ends = lent.kind_ends.now;
+      text = lent.text.now;
+      ends = lent.ends.now;
+      sorts = lent.operations.now;
+      kinds = lent.kinds.now;
+      sources = lent.sources.now;
+      targets = lent.targets.now;
+      weights = lent.weights.now;
+      times = lent.times.now;
+    }
+
+-- the same of C's struct, where that has its size; else nothing is appended
+abbrev pub TellsGiven : OperationColumns → ℕ → ℕ → Option Held → ℕ → Option Held → ℕ → Type 0
+TellsGiven columns limit from old done new code =
+    MatchBool (columns.size == 168) (TellsColumnsWithin limit (given_table columns) from old done new code)
+    ((code ≡ 21) × (new ≡ old) × (done ≡ from))
 
 -- what insertions in columns are told by
 abbrev pub insert_columns_code : Result (Unit {0}) InsertColumnsError → ℕ

@@ -4,3 +4,5 @@ pub mod Desks
 pub mod Opening
 pub mod Phases
 pub mod Columns
+pub mod Edges
+pub mod Texts

@@ -1,113 +1,76 @@
 //! Operations in columns.
 
 ghost use Rattle.std.specs.Prelude.{◌≡◌, ◌≤◌, ◌↔◌, Some, None, IsTrue};
-ghost use Rattle.graph_types.specs.Limits.{most_operations, operation_limit};
+ghost use Rattle.graph_types.specs.Limits.{most_operations};
 ghost use Rattle.batch_columns.specs.Operations.{table_of};
 ghost use Rattle.misteluk_c.specs.Held.{batch_in, Asks};
-ghost use Rattle.misteluk_c.specs.Columns.{TellsColumns, TellsColumnsWithin, IsOperationLimit};
+ghost use Rattle.misteluk_c.specs.Columns.{TellsColumns, TellsGiven, given_table, IsOperationLimit};
 
-use crate::codes::{BAD_LIMITS, NO_HANDLE, OK, operations_code};
+use crate::codes::{BAD_LIMITS, BAD_SIZE, NO_HANDLE, OK, operations_code};
 use batch_columns::{Operations, with_operations};
-use graph_types::{MOST_OPERATIONS, OPERATION_LIMIT};
+use graph_types::MOST_OPERATIONS;
 use std::alloc::Global;
 use store_handles::{Handle, Held};
 
-/// Appends operations in columns to a batch.
+/// Operations in columns, and the two dictionaries that their numbers are of.
+#[derive(Clone, Copy)]
+#[repr(C)]
+pub struct OperationColumns<'a> {
+    /// How many bytes the struct has for who gives it: what lies past them is none of it.
+    pub size: usize,
+    pub kind_text: &'a [u8],
+    pub kind_ends: &'a [u64],
+    pub text: &'a [u8],
+    pub ends: &'a [u64],
+    pub operations: &'a [u8],
+    pub kinds: &'a [u32],
+    pub sources: &'a [u32],
+    pub targets: &'a [u32],
+    pub weights: &'a [i64],
+    pub times: &'a [u64],
+}
+
+/// How large that struct is.
+pub(crate) const COLUMNS_SIZE: usize = 168;
+
+/// Appends operations in columns to a batch that may have so many.
 #[unsafe(no_mangle)]
 pub extern "C" fn misteluk_batch_columns(
     alloc: Global,
     batch: &mut Handle,
-    kind_text: &[u8],
-    kind_ends: &[u64],
-    text: &[u8],
-    ends: &[u64],
-    operations: &[u8],
-    kinds: &[u32],
-    sources: &[u32],
-    targets: &[u32],
-    weights: &[i64],
-    times: &[u64],
-    done: &mut u64,
-) -> u32
-    ensures told { Asks (batch_in batch.old.held) result (λ ops. TellsColumns operation_limit (record {
-      kind_text = kind_text.now;
-      kind_ends = kind_ends.now;
-      text = text.now;
-      ends = ends.now;
-      sorts = operations.now;
-      kinds = kinds.now;
-      sources = sources.now;
-      targets = targets.now;
-      weights = weights.now;
-      times = times.now;
-    }) done.old ops done.new batch.new.held result) }
-    ensures memory { result ≡ 1 → done.new ≡ done.old }
-    ensures none { batch_in batch.old.held ≡ None → (batch.new.held ≡ batch.old.held) × (done.new ≡ done.old) }
-{
-    let operations = Operations {
-        kind_text,
-        kind_ends,
-        text,
-        ends,
-        sorts: operations,
-        kinds,
-        sources,
-        targets,
-        weights,
-        times,
-    };
-    append_by(alloc, batch, OPERATION_LIMIT, &operations, done)
-}
-
-/// Appends operations in columns to a batch that may have so many.
-#[unsafe(no_mangle)]
-pub extern "C" fn misteluk_batch_columns_within(
-    alloc: Global,
-    batch: &mut Handle,
+    columns: &OperationColumns<'_>,
     limit: u32,
-    kind_text: &[u8],
-    kind_ends: &[u64],
-    text: &[u8],
-    ends: &[u64],
-    operations: &[u8],
-    kinds: &[u32],
-    sources: &[u32],
-    targets: &[u32],
-    weights: &[i64],
-    times: &[u64],
     done: &mut u64,
 ) -> u32
-    ensures told { TellsColumnsWithin limit (record {
-      kind_text = kind_text.now;
-      kind_ends = kind_ends.now;
-      text = text.now;
-      ends = ends.now;
-      sorts = operations.now;
-      kinds = kinds.now;
-      sources = sources.now;
-      targets = targets.now;
-      weights = weights.now;
-      times = times.now;
-    }) done.old batch.old.held done.new batch.new.held result }
+    ensures told { TellsGiven columns.now limit done.old batch.old.held done.new batch.new.held result }
     ensures memory { result ≡ 1 → done.new ≡ done.old }
     ensures none { batch_in batch.old.held ≡ None → (batch.new.held ≡ batch.old.held) × (done.new ≡ done.old) }
 {
-    let operations = Operations {
-        kind_text,
-        kind_ends,
-        text,
-        ends,
-        sorts: operations,
-        kinds,
-        sources,
-        targets,
-        weights,
-        times,
-    };
+    if columns.size != COLUMNS_SIZE {
+        return BAD_SIZE;
+    }
     if !is_operation_limit(limit) {
         return BAD_LIMITS;
     }
-    append_by(alloc, batch, limit as usize, &operations, done)
+    append_by(alloc, batch, limit as usize, &operations_in(columns), done)
+}
+
+/// The columns of C's struct.
+pub(crate) fn operations_in<'a>(columns: &OperationColumns<'a>) -> Operations<'a>
+    ensures { table_of result ≡ given_table columns.now }
+{
+    Operations {
+        kind_text: columns.kind_text,
+        kind_ends: columns.kind_ends,
+        text: columns.text,
+        ends: columns.ends,
+        sorts: columns.operations,
+        kinds: columns.kinds,
+        sources: columns.sources,
+        targets: columns.targets,
+        weights: columns.weights,
+        times: columns.times,
+    }
 }
 
 /// Whether a batch may have so many operations.

@@ -25,10 +25,11 @@ pub extern "C" fn misteluk_batch_new(alloc: Global, out: &mut Handle) -> u32
     OK
 }
 
-/// Ends what a handle holds, if it holds anything.
+/// Ends what a handle holds, if it holds anything, and leaves it empty.
 #[unsafe(no_mangle)]
-pub extern "C" fn misteluk_batch_free(alloc: Global, batch: Handle) {
-    let mut batch = batch;
+pub extern "C" fn misteluk_batch_free(alloc: Global, batch: &mut Handle)
+    ensures { batch.new.held ≡ None }
+{
     drop(batch.take(alloc));
 }
 

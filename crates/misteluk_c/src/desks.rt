@@ -39,10 +39,11 @@ pub struct HoldNumbers {
     pub number: u64,
 }
 
-/// Ends what a handle holds, if it holds anything.
+/// Ends what a handle holds, if it holds anything, and leaves it empty.
 #[unsafe(no_mangle)]
-pub extern "C" fn misteluk_desk_free(alloc: Global, desk: Handle) {
-    let mut desk = desk;
+pub extern "C" fn misteluk_desk_free(alloc: Global, desk: &mut Handle)
+    ensures { desk.new.held ≡ None }
+{
     drop(desk.take(alloc));
 }
 

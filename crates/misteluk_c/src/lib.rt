@@ -5,8 +5,6 @@
 //! a code.
 #![tactic(auto)]
 
-ghost use Rattle.std.specs.Prelude.{◌≡◌};
-
 mod appending;
 mod batches;
 mod codes;
@@ -16,12 +14,5 @@ mod opening;
 mod phases;
 #[cfg(test)]
 mod tests;
+mod texts;
 mod versions;
-
-/// The number of the interface that the header declares.
-#[unsafe(no_mangle)]
-pub extern "C" fn misteluk_interface() -> u32
-    ensures { result ≡ 3 }
-{
-    3
-}

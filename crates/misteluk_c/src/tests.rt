@@ -1,6 +1,6 @@
 //! Each function is called once on its happy path. What the library is compiled from without a proof is what these reach.
 
-use crate::appending::{misteluk_batch_columns, misteluk_batch_columns_within};
+use crate::appending::{OperationColumns, misteluk_batch_columns};
 use crate::batches::{
     misteluk_batch_add, misteluk_batch_expire, misteluk_batch_free, misteluk_batch_insert,
     misteluk_batch_length, misteluk_batch_new, misteluk_batch_remove,
@@ -10,14 +10,13 @@ use crate::desks::{
     misteluk_desk_hold, misteluk_desk_rebase, misteluk_desk_release, misteluk_desk_stat,
 };
 use crate::inserting::misteluk_desk_insert_columns;
-use crate::misteluk_interface;
 use crate::opening::{
     DeskLimits, misteluk_desk_limits, misteluk_desk_new, misteluk_desk_new_within,
-    misteluk_desk_new_within_weight, misteluk_desk_weight,
 };
 use crate::phases::{misteluk_desk_begin, misteluk_desk_cancel, misteluk_desk_finish};
+use crate::texts::{misteluk_code_text, misteluk_interface, misteluk_library_version};
 use crate::versions::{
-    misteluk_version_clone, misteluk_version_cores, misteluk_version_degrees,
+    EdgeColumns, misteluk_version_clone, misteluk_version_cores, misteluk_version_degrees,
     misteluk_version_edge, misteluk_version_edges, misteluk_version_free, misteluk_version_kind,
     misteluk_version_kind_names, misteluk_version_labels, misteluk_version_levels,
     misteluk_version_names, misteluk_version_row, misteluk_version_size, misteluk_version_vertex,
@@ -42,52 +41,29 @@ fn fill(alloc: Global, batch: &mut Handle) -> u32 {
         misteluk_batch_add(alloc, batch, b"k", b"a", b"b", 1, 2),
         misteluk_batch_remove(alloc, batch, b"k", b"a", b"c"),
         misteluk_batch_expire(alloc, batch, 0),
-        append(alloc, batch),
-        append_within(alloc, batch, 65_536),
+        append(alloc, batch, 65_536),
         misteluk_batch_length(alloc, batch, &mut length),
     ];
     sum(&codes)
 }
 
-/// The code of one operation of each sort, in columns.
-fn append(alloc: Global, batch: &mut Handle) -> u32 {
+/// The code of one operation of each sort, in columns, of a batch that may have so many operations.
+fn append(alloc: Global, batch: &mut Handle, limit: u32) -> u32 {
     let mut done = 0_u64;
-    misteluk_batch_columns(
-        alloc,
-        batch,
-        b"k",
-        &[1],
-        b"ab",
-        &[1, 2],
-        &[0, 1, 2, 3],
-        &[0, 0, 0, 0],
-        &[0, 0, 1, 0],
-        &[1, 1, 0, 0],
-        &[1, 2, 0, 0],
-        &[2, 3, 0, 1],
-        &mut done,
-    )
-}
-
-/// The code of one insertion in columns, of a batch that may have so many operations.
-fn append_within(alloc: Global, batch: &mut Handle, limit: u32) -> u32 {
-    let mut done = 0_u64;
-    misteluk_batch_columns_within(
-        alloc,
-        batch,
-        limit,
-        b"k",
-        &[1],
-        b"ab",
-        &[1, 2],
-        &[0],
-        &[0],
-        &[0],
-        &[1],
-        &[1],
-        &[2],
-        &mut done,
-    )
+    let columns = OperationColumns {
+        size: 168,
+        kind_text: b"k",
+        kind_ends: &[1],
+        text: b"ab",
+        ends: &[1, 2],
+        operations: &[0, 1, 2, 3],
+        kinds: &[0, 0, 0, 0],
+        sources: &[0, 0, 1, 0],
+        targets: &[1, 1, 0, 0],
+        weights: &[1, 2, 0, 0],
+        times: &[2, 3, 0, 1],
+    };
+    misteluk_batch_columns(alloc, batch, &columns, limit, &mut done)
 }
 
 fn sum(codes: &[u32]) -> u32 {
@@ -151,33 +127,18 @@ fn apply(alloc: Global, batch: &mut Handle, desk: &mut Handle, version: &mut Han
 fn open_within(alloc: Global) -> u32 {
     let mut desk = Handle::empty(alloc);
     let mut limits = DeskLimits {
-        names: 3,
+        size: 32,
+        names: 20_000_000,
         kinds: 2,
         batches: 2,
+        weight: 1_000_000,
     };
     let given = limits;
     let codes = [
         misteluk_desk_new_within(alloc, 2, &given, 65_537, &mut desk),
         misteluk_desk_limits(alloc, &mut desk, &mut limits),
     ];
-    misteluk_desk_free(alloc, desk);
-    sum(&codes)
-}
-
-/// The codes of a desk under a limit of weights, which ends.
-fn open_light(alloc: Global) -> u32 {
-    let mut desk = Handle::empty(alloc);
-    let mut most = 0_u64;
-    let limits = DeskLimits {
-        names: 20_000_000,
-        kinds: 2,
-        batches: 2,
-    };
-    let codes = [
-        misteluk_desk_new_within_weight(alloc, 3, &limits, 1_000_000, 16, &mut desk),
-        misteluk_desk_weight(alloc, &mut desk, &mut most),
-    ];
-    misteluk_desk_free(alloc, desk);
+    misteluk_desk_free(alloc, &mut desk);
     sum(&codes)
 }
 
@@ -252,42 +213,25 @@ const EMPTY: Columns = Columns {
     recents: [0; 2],
 };
 
-/// The code of one source's edges.
-fn read_row(alloc: Global, version: &mut Handle) -> u32 {
-    let mut into = EMPTY;
-    let mut count = 0_u64;
-    misteluk_version_row(
-        alloc,
-        version,
-        &EVERY,
-        0,
-        &mut into.kinds,
-        &mut into.targets,
-        &mut into.weights,
-        &mut into.firsts,
-        &mut into.recents,
-        &mut count,
-    )
-}
-
-/// The code of all edges.
+/// The codes of one source's edges, and of all.
 fn read_edges(alloc: Global, version: &mut Handle) -> u32 {
-    let mut into = EMPTY;
+    let mut room = EMPTY;
     let mut source = 0_u32;
     let mut count = 0_u64;
-    misteluk_version_edges(
-        alloc,
-        version,
-        &EVERY,
-        &mut source,
-        &mut into.kinds,
-        &mut into.sources,
-        &mut into.targets,
-        &mut into.weights,
-        &mut into.firsts,
-        &mut into.recents,
-        &mut count,
-    )
+    let mut into = EdgeColumns {
+        size: 104,
+        kinds: &mut room.kinds,
+        sources: &mut room.sources,
+        targets: &mut room.targets,
+        weights: &mut room.weights,
+        firsts: &mut room.firsts,
+        recents: &mut room.recents,
+    };
+    let codes = [
+        misteluk_version_row(alloc, version, &EVERY, 0, &mut into, &mut count),
+        misteluk_version_edges(alloc, version, &EVERY, &mut source, &mut into, &mut count),
+    ];
+    sum(&codes)
 }
 
 #[test]
@@ -299,17 +243,18 @@ fn each_is_called(rt: HostRuntime) {
     let mut other = Handle::empty(alloc);
     let codes = [
         open_within(alloc),
-        open_light(alloc),
         fill(alloc, &mut batch),
         apply(alloc, &mut batch, &mut desk, &mut version),
         look_up(alloc, &mut version, &mut other),
         ask(alloc, &mut version),
-        read_row(alloc, &mut version),
         read_edges(alloc, &mut version),
     ];
-    misteluk_batch_free(alloc, batch);
-    misteluk_desk_free(alloc, desk);
-    misteluk_version_free(alloc, version);
-    misteluk_version_free(alloc, other);
-    let _ = println!(rt; "{} {}", misteluk_interface(), sum(&codes));
+    misteluk_batch_free(alloc, &mut batch);
+    misteluk_desk_free(alloc, &mut desk);
+    misteluk_version_free(alloc, &mut version);
+    misteluk_version_free(alloc, &mut other);
+    let mut text = [0_u8; 80];
+    let told = misteluk_code_text(0, &mut text);
+    let numbers = [misteluk_interface(), misteluk_library_version(), told];
+    let _ = println!(rt; "{} {}", sum(&numbers), sum(&codes));
 }

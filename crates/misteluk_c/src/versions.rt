@@ -1,14 +1,15 @@
 //! Versions.
 
-ghost use Rattle.std.specs.Prelude.{◌≡◌, Some, None, length, MatchOption};
+ghost use Rattle.std.specs.Prelude.{◌≡◌, ◌==◌, ◌⊎◌, Some, None, length, MatchBool, MatchOption, false};
 ghost use Rattle.graph_version.specs.Versions.{content};
 ghost use Rattle.version_columns.specs.Lookups.{size_of, marks_of_edge};
 ghost use Rattle.version_columns.specs.Tables.{WritesCores, WritesLabels, WritesLevels, WritesDegrees, degree_columns};
-ghost use Rattle.version_columns.specs.Rows.{columns, edge_columns, WritesRow, IsRowCount, WritesEdges};
+ghost use Rattle.misteluk_c.specs.Edges.{edge_table, AreTheColumns, TellsRow, TellsEdges};
 ghost use Rattle.misteluk_c.specs.Held.{held_version_of, Asks, MakesHeld, TellsCode, TellsNumber, TellsNames, TellsEdge};
 
 use crate::codes::{
-    HELD_ALREADY, MEMORY, NO_HANDLE, NO_KIND, NO_VERTEX, OK, column_code, columns_code, names_code,
+    BAD_SIZE, HELD_ALREADY, MEMORY, NO_HANDLE, NO_KIND, NO_VERTEX, OK, column_code, columns_code,
+    names_code,
 };
 use graph_version::Version;
 use std::alloc::Global;
@@ -58,10 +59,11 @@ fn clone_of(alloc: Global, held: &Held, out: &mut Handle) -> u32
     OK
 }
 
-/// Ends what a handle holds, if it holds anything.
+/// Ends what a handle holds, if it holds anything, and leaves it empty.
 #[unsafe(no_mangle)]
-pub extern "C" fn misteluk_version_free(alloc: Global, version: Handle) {
-    let mut version = version;
+pub extern "C" fn misteluk_version_free(alloc: Global, version: &mut Handle)
+    ensures { version.new.held ≡ None }
+{
     drop(version.take(alloc));
 }
 
@@ -316,6 +318,23 @@ pub extern "C" fn misteluk_version_cores(
     code
 }
 
+/// Columns that edges are written to.
+#[derive(Drop)]
+#[repr(C)]
+pub struct EdgeColumns<'a> {
+    /// How many bytes the struct has for who gives it: what lies past them is none of it.
+    pub size: usize,
+    pub kinds: &'a mut [u32],
+    pub sources: &'a mut [u32],
+    pub targets: &'a mut [u32],
+    pub weights: &'a mut [i64],
+    pub firsts: &'a mut [u64],
+    pub recents: &'a mut [u64],
+}
+
+/// How large that struct is.
+const EDGES_SIZE: usize = 104;
+
 /// Writes the edges of one source.
 #[unsafe(no_mangle)]
 pub extern "C" fn misteluk_version_row(
@@ -323,31 +342,53 @@ pub extern "C" fn misteluk_version_row(
     version: &mut Handle,
     view: &View,
     source: u32,
-    kinds: &mut [u32],
-    targets: &mut [u32],
-    weights: &mut [i64],
-    firsts: &mut [u64],
-    recents: &mut [u64],
+    into: &mut EdgeColumns<'_>,
     count: &mut u64,
 ) -> u32
     ensures same { version.new.held ≡ version.old.held }
-    ensures told { Asks (held_version_of version.old.held) result (λ v. TellsCode result (WritesRow v view.now source (columns kinds.old targets.old weights.old firsts.old recents.old)
-        (columns kinds.new targets.new weights.new firsts.new recents.new)) × IsRowCount v view.now source count.new) }
-    ensures none { held_version_of version.old.held ≡ None
-        → (kinds.new ≡ kinds.old) × (targets.new ≡ targets.old) × (weights.new ≡ weights.old)
-        × (firsts.new ≡ firsts.old) × (recents.new ≡ recents.old) × (count.new ≡ count.old) }
+    ensures struct_same { AreTheColumns into.old into.new }
+    ensures told { MatchBool (into.old.size == 104) (Asks (held_version_of version.old.held) result
+        (λ v. TellsRow v view.now source into.old into.new count.new result)) (result ≡ 21) }
+    ensures sources { into.new.sources.now ≡ into.old.sources.now }
+    ensures none { (into.old.size == 104 ≡ false) ⊎ (held_version_of version.old.held ≡ None)
+        → (edge_table into.new ≡ edge_table into.old) × (count.new ≡ count.old) }
 {
+    if into.size != EDGES_SIZE {
+        return BAD_SIZE;
+    }
     let Some(held) = version.take(alloc) else {
         return NO_HANDLE;
     };
     let code = match &*held {
-        Held::Version(version) => columns_code(columns::write_row(
-            version, view, source, kinds, targets, weights, firsts, recents, count,
-        )),
+        Held::Version(version) => row_to(version, view, source, into, count),
         _ => NO_HANDLE,
     };
     version.put(held);
     code
+}
+
+fn row_to(
+    version: &Version,
+    view: &View,
+    source: u32,
+    into: &mut EdgeColumns<'_>,
+    count: &mut u64,
+) -> u32
+    ensures struct_same { AreTheColumns into.old into.new }
+    ensures told { TellsRow version.now view.now source into.old into.new count.new result }
+    ensures sources { into.new.sources.now ≡ into.old.sources.now }
+{
+    columns_code(columns::write_row(
+        version,
+        view,
+        source,
+        into.kinds,
+        into.targets,
+        into.weights,
+        into.firsts,
+        into.recents,
+        count,
+    ))
 }
 
 /// Writes the edges of sources from one on.
@@ -357,33 +398,52 @@ pub extern "C" fn misteluk_version_edges(
     version: &mut Handle,
     view: &View,
     source: &mut u32,
-    kinds: &mut [u32],
-    sources: &mut [u32],
-    targets: &mut [u32],
-    weights: &mut [i64],
-    firsts: &mut [u64],
-    recents: &mut [u64],
+    into: &mut EdgeColumns<'_>,
     count: &mut u64,
 ) -> u32
     ensures same { version.new.held ≡ version.old.held }
-    ensures told { Asks (held_version_of version.old.held) result (λ v. TellsCode result (WritesEdges v view.now
-        (edge_columns source.old sources.old (columns kinds.old targets.old weights.old firsts.old recents.old))
-        (edge_columns source.new sources.new (columns kinds.new targets.new weights.new firsts.new recents.new)) count.new)) }
-    ensures none { held_version_of version.old.held ≡ None
-        → (source.new ≡ source.old) × (kinds.new ≡ kinds.old) × (sources.new ≡ sources.old) × (targets.new ≡ targets.old)
-        × (weights.new ≡ weights.old) × (firsts.new ≡ firsts.old) × (recents.new ≡ recents.old) × (count.new ≡ count.old) }
+    ensures struct_same { AreTheColumns into.old into.new }
+    ensures told { MatchBool (into.old.size == 104) (Asks (held_version_of version.old.held) result
+        (λ v. TellsEdges v view.now source.old into.old source.new into.new count.new result)) (result ≡ 21) }
+    ensures none { (into.old.size == 104 ≡ false) ⊎ (held_version_of version.old.held ≡ None)
+        → (edge_table into.new ≡ edge_table into.old) × (source.new ≡ source.old) × (count.new ≡ count.old) }
 {
+    if into.size != EDGES_SIZE {
+        return BAD_SIZE;
+    }
     let Some(held) = version.take(alloc) else {
         return NO_HANDLE;
     };
     let code = match &*held {
-        Held::Version(version) => columns_code(columns::write_edges(
-            version, view, source, kinds, sources, targets, weights, firsts, recents, count,
-        )),
+        Held::Version(version) => edges_to(version, view, source, into, count),
         _ => NO_HANDLE,
     };
     version.put(held);
     code
+}
+
+fn edges_to(
+    version: &Version,
+    view: &View,
+    source: &mut u32,
+    into: &mut EdgeColumns<'_>,
+    count: &mut u64,
+) -> u32
+    ensures struct_same { AreTheColumns into.old into.new }
+    ensures told { TellsEdges version.now view.now source.old into.old source.new into.new count.new result }
+{
+    columns_code(columns::write_edges(
+        version,
+        view,
+        source,
+        into.kinds,
+        into.sources,
+        into.targets,
+        into.weights,
+        into.firsts,
+        into.recents,
+        count,
+    ))
 }
 
 fn size_to(version: &Version, out: &mut VersionSize) -> u32

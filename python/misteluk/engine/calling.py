@@ -5,7 +5,7 @@ import os
 import struct
 import threading
 from array import array
-from ctypes import c_uint64
+from ctypes import c_uint64, sizeof
 from itertools import chain
 from typing import Any, Dict, List, NamedTuple, Optional, Tuple
 
@@ -150,13 +150,12 @@ def fill(library: Library, raw: interface.Batch, batch: Operations) -> None:
 
 def _fill_at_once(library: Library, raw: interface.Batch, columns: Numbered) -> None:
     """The same by a call for all, which have room in the batch."""
-    append: Any = library.batch_columns_within
-    check(append(raw, MOST_AT_ONCE, *places_of(columns), c_uint64()))
+    check(library.batch_columns(raw, columns_of(columns), MOST_AT_ONCE, c_uint64()))
 
 
-def places_of(columns: Numbered) -> List[Any]:
-    """Where the columns of operations stand, as a call takes them: both dictionaries, each a text and where its names end, and
-    then what each does, the numbers of kinds, sources and targets, the weights and the times."""
-    dictionaries = [(text, len(text), address(ends), len(ends)) for text, ends in (columns.of_kinds.encoded,
-                                                                                    columns.of_names.encoded)]
-    return list(chain.from_iterable([*dictionaries, *((address(it), len(it)) for it in columns[:6])]))
+def columns_of(operations: Numbered) -> interface.Columns:
+    """Where the columns of operations stand, as a call takes them, which have to be there as long as that."""
+    dictionaries = [(text, len(text), address(ends), len(ends)) for text, ends in (operations.of_kinds.encoded,
+                                                                                    operations.of_names.encoded)]
+    words = chain.from_iterable([*dictionaries, *((address(it), len(it)) for it in operations[:6])])
+    return interface.Columns(sizeof(interface.Columns), *words)

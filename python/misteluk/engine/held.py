@@ -4,7 +4,7 @@ from __future__ import annotations
 import weakref
 from array import array
 from bisect import bisect_left
-from ctypes import c_size_t, c_uint32, c_uint64, c_void_p
+from ctypes import c_uint32, c_uint64, sizeof
 from itertools import chain
 from operator import itemgetter
 from typing import Any, Dict, List, NamedTuple, Optional, Protocol, Sequence, Tuple, Union, cast
@@ -56,15 +56,19 @@ class Holder(Protocol):
     def release(self, version: Any) -> None: ...
 
 
+def edge_columns(columns: Arrays, size: int) -> interface.EdgeColumns:
+    """Where columns of this length stand, as a call takes them."""
+    return interface.EdgeColumns(sizeof(interface.EdgeColumns), *(word for it in columns for word in (address(it), size)))
+
+
 class Row:
     """Room for the edges of a vertex, so many, which calls use again, and where it is, as the library takes it."""
 
-    __slots__ = ("columns", "places", "count")
+    __slots__ = ("columns", "into", "count")
 
     def __init__(self, size: int) -> None:
         self.columns, self.count = Arrays.of(size), c_uint64()
-        kinds, _, *others = self.columns
-        self.places: Any = [word for it in (kinds, *others) for word in (c_void_p(address(it)), c_size_t(size))]
+        self.into = edge_columns(self.columns, size)
 
 
 class Kept:
@@ -289,8 +293,7 @@ class LibraryVersion:
         if not self._edges:
             return Arrays.none()
         found, count, source = Arrays.of(self._edges), c_uint64(), c_uint32()
-        places = chain.from_iterable((address(it), self._edges) for it in found)
-        check(self._ask(self._library.version_edges, view, source, *places, count))
+        check(self._ask(self._library.version_edges, view, source, edge_columns(found, self._edges), count))
         for it in found:
             del it[count.value:]
         return found
@@ -357,13 +360,13 @@ class LibraryVersion:
             row = rows.pop()
         except IndexError:
             row = Row(A_ROW)
-        code: int = self._ask(self._library.version_row, view, source, *row.places, row.count)
+        code: int = self._ask(self._library.version_row, view, source, row.into, row.count)
         if code == Code.BAD_LENGTH:
             if most is not None and row.count.value > most:
                 rows.append(row)
                 return None
             row = Row(row.count.value)
-            code = self._ask(self._library.version_row, view, source, *row.places, row.count)
+            code = self._ask(self._library.version_row, view, source, row.into, row.count)
         if code:
             raise refusal_of(code)
         return row

@@ -1,13 +1,14 @@
 """The C interface of the store, for ctypes. `tools/interface` writes this from include/misteluk.h, which says what each
 call does, and what a caller owes: nothing here tests it."""
 import enum
-from ctypes import CDLL, POINTER, Array, Structure, c_int64, c_size_t, c_uint32, c_uint64, c_void_p
+from ctypes import CDLL, POINTER, Array, Structure, c_char_p, c_int64, c_size_t, c_uint32, c_uint64, c_void_p
 from typing import Any, Callable, Dict, List, Tuple, Union
 
 # Where an array or a text begins: its address, bytes that are only read, or an array of ctypes.
 Memory = Union[int, bytes, "Array[Any]"]
 
-INTERFACE = 3
+INTERFACE = 4
+VERSION = 100
 ANY_KIND = 0xFFFF_FFFF
 NOT_REACHED = 0xFFFF_FFFF
 INSERT = 0
@@ -15,6 +16,8 @@ ADD = 1
 REMOVE = 2
 EXPIRE = 3
 MOST_OPERATIONS = 1048576
+OPERATIONS = 4096
+TEXT_BYTES = 80
 
 
 class Code(enum.IntEnum):
@@ -40,6 +43,7 @@ class Code(enum.IntEnum):
     NO_KIND = 17
     NO_EDGE = 18
     BAD_LIMITS = 19
+    BAD_SIZE = 21
 
 
 class Desk(Structure):
@@ -58,10 +62,62 @@ class Version(Structure):
 
 
 class Limits(Structure):
-    _fields_ = [("names", c_uint32), ("kinds", c_uint32), ("batches", c_uint32)]
+    _fields_ = [("size", c_size_t), ("names", c_uint32), ("kinds", c_uint32), ("batches", c_uint32), ("weight", c_uint64)]
+    size: int
     names: int
     kinds: int
     batches: int
+    weight: int
+
+
+class Columns(Structure):
+    _fields_ = [("size", c_size_t), ("kind_text", c_char_p), ("kind_text_length", c_size_t), ("kind_ends", c_void_p),
+        ("kind_ends_length", c_size_t), ("text", c_char_p), ("text_length", c_size_t), ("ends", c_void_p),
+        ("ends_length", c_size_t), ("operations", c_void_p), ("operations_length", c_size_t), ("kinds", c_void_p),
+        ("kinds_length", c_size_t), ("sources", c_void_p), ("sources_length", c_size_t), ("targets", c_void_p),
+        ("targets_length", c_size_t), ("weights", c_void_p), ("weights_length", c_size_t), ("times", c_void_p),
+        ("times_length", c_size_t)]
+    size: int
+    kind_text: Any
+    kind_text_length: int
+    kind_ends: Any
+    kind_ends_length: int
+    text: Any
+    text_length: int
+    ends: Any
+    ends_length: int
+    operations: Any
+    operations_length: int
+    kinds: Any
+    kinds_length: int
+    sources: Any
+    sources_length: int
+    targets: Any
+    targets_length: int
+    weights: Any
+    weights_length: int
+    times: Any
+    times_length: int
+
+
+class EdgeColumns(Structure):
+    _fields_ = [("size", c_size_t), ("kinds", c_void_p), ("kinds_length", c_size_t), ("sources", c_void_p),
+        ("sources_length", c_size_t), ("targets", c_void_p), ("targets_length", c_size_t), ("weights", c_void_p),
+        ("weights_length", c_size_t), ("firsts", c_void_p), ("firsts_length", c_size_t), ("recents", c_void_p),
+        ("recents_length", c_size_t)]
+    size: int
+    kinds: Any
+    kinds_length: int
+    sources: Any
+    sources_length: int
+    targets: Any
+    targets_length: int
+    weights: Any
+    weights_length: int
+    firsts: Any
+    firsts_length: int
+    recents: Any
+    recents_length: int
 
 
 class Counts(Structure):
@@ -122,25 +178,20 @@ class View(Structure):
 
 FUNCTIONS: Dict[str, Tuple[Any, List[Any]]] = {
     "interface": (c_uint32, []),
+    "library_version": (c_uint32, []),
+    "code_text": (c_uint32, [c_uint32, c_void_p, c_size_t]),
     "batch_new": (c_uint32, [POINTER(Batch)]),
-    "batch_free": (None, [Batch]),
+    "batch_free": (None, [POINTER(Batch)]),
     "batch_length": (c_uint32, [POINTER(Batch), POINTER(c_uint64)]),
     "batch_insert": (c_uint32, [POINTER(Batch), c_void_p, c_size_t, c_void_p, c_size_t, c_void_p, c_size_t, c_int64, c_uint64]),
     "batch_add": (c_uint32, [POINTER(Batch), c_void_p, c_size_t, c_void_p, c_size_t, c_void_p, c_size_t, c_int64, c_uint64]),
     "batch_remove": (c_uint32, [POINTER(Batch), c_void_p, c_size_t, c_void_p, c_size_t, c_void_p, c_size_t]),
     "batch_expire": (c_uint32, [POINTER(Batch), c_uint64]),
-    "batch_columns": (c_uint32, [POINTER(Batch), c_void_p, c_size_t, c_void_p, c_size_t, c_void_p, c_size_t, c_void_p,
-        c_size_t, c_void_p, c_size_t, c_void_p, c_size_t, c_void_p, c_size_t, c_void_p, c_size_t, c_void_p, c_size_t, c_void_p,
-        c_size_t, POINTER(c_uint64)]),
-    "batch_columns_within": (c_uint32, [POINTER(Batch), c_uint32, c_void_p, c_size_t, c_void_p, c_size_t, c_void_p, c_size_t,
-        c_void_p, c_size_t, c_void_p, c_size_t, c_void_p, c_size_t, c_void_p, c_size_t, c_void_p, c_size_t, c_void_p, c_size_t,
-        c_void_p, c_size_t, POINTER(c_uint64)]),
+    "batch_columns": (c_uint32, [POINTER(Batch), POINTER(Columns), c_uint32, POINTER(c_uint64)]),
     "desk_new": (c_uint32, [c_uint64, c_uint32, POINTER(Desk)]),
     "desk_new_within": (c_uint32, [c_uint64, POINTER(Limits), c_uint32, POINTER(Desk)]),
-    "desk_new_within_weight": (c_uint32, [c_uint64, POINTER(Limits), c_uint64, c_uint32, POINTER(Desk)]),
     "desk_limits": (c_uint32, [POINTER(Desk), POINTER(Limits)]),
-    "desk_weight": (c_uint32, [POINTER(Desk), POINTER(c_uint64)]),
-    "desk_free": (None, [Desk]),
+    "desk_free": (None, [POINTER(Desk)]),
     "desk_apply": (c_uint32, [POINTER(Desk), POINTER(Batch), POINTER(Counts)]),
     "desk_begin": (c_uint32, [POINTER(Desk), POINTER(Batch)]),
     "desk_finish": (c_uint32, [POINTER(Desk), POINTER(Counts)]),
@@ -153,7 +204,7 @@ FUNCTIONS: Dict[str, Tuple[Any, List[Any]]] = {
     "desk_release": (c_uint32, [POINTER(Desk), POINTER(Hold)]),
     "desk_rebase": (c_uint32, [POINTER(Desk)]),
     "version_clone": (c_uint32, [POINTER(Version), POINTER(Version)]),
-    "version_free": (None, [Version]),
+    "version_free": (None, [POINTER(Version)]),
     "version_size": (c_uint32, [POINTER(Version), POINTER(Size)]),
     "version_vertex": (c_uint32, [POINTER(Version), c_void_p, c_size_t, POINTER(c_uint32)]),
     "version_kind": (c_uint32, [POINTER(Version), c_void_p, c_size_t, POINTER(c_uint32)]),
@@ -164,10 +215,8 @@ FUNCTIONS: Dict[str, Tuple[Any, List[Any]]] = {
     "version_levels": (c_uint32, [POINTER(Version), POINTER(View), c_uint32, c_void_p, c_size_t]),
     "version_labels": (c_uint32, [POINTER(Version), POINTER(View), c_void_p, c_size_t]),
     "version_cores": (c_uint32, [POINTER(Version), POINTER(View), c_void_p, c_size_t]),
-    "version_row": (c_uint32, [POINTER(Version), POINTER(View), c_uint32, c_void_p, c_size_t, c_void_p, c_size_t, c_void_p,
-        c_size_t, c_void_p, c_size_t, c_void_p, c_size_t, POINTER(c_uint64)]),
-    "version_edges": (c_uint32, [POINTER(Version), POINTER(View), POINTER(c_uint32), c_void_p, c_size_t, c_void_p, c_size_t,
-        c_void_p, c_size_t, c_void_p, c_size_t, c_void_p, c_size_t, c_void_p, c_size_t, POINTER(c_uint64)]),
+    "version_row": (c_uint32, [POINTER(Version), POINTER(View), c_uint32, POINTER(EdgeColumns), POINTER(c_uint64)]),
+    "version_edges": (c_uint32, [POINTER(Version), POINTER(View), POINTER(c_uint32), POINTER(EdgeColumns), POINTER(c_uint64)]),
 }
 
 
@@ -176,6 +225,8 @@ class Library:
     where the header has a pointer to one, and an array by its address and how many items it has."""
 
     interface: Callable[[], int]
+    library_version: Callable[[], int]
+    code_text: Callable[[int, Memory, int], int]
     batch_new: Callable[[Batch], int]
     batch_free: Callable[[Batch], None]
     batch_length: Callable[[Batch, c_uint64], int]
@@ -183,15 +234,10 @@ class Library:
     batch_add: Callable[[Batch, Memory, int, Memory, int, Memory, int, int, int], int]
     batch_remove: Callable[[Batch, Memory, int, Memory, int, Memory, int], int]
     batch_expire: Callable[[Batch, int], int]
-    batch_columns: Callable[[Batch, Memory, int, Memory, int, Memory, int, Memory, int, Memory, int, Memory, int, Memory,
-        int, Memory, int, Memory, int, Memory, int, c_uint64], int]
-    batch_columns_within: Callable[[Batch, int, Memory, int, Memory, int, Memory, int, Memory, int, Memory, int, Memory,
-        int, Memory, int, Memory, int, Memory, int, Memory, int, c_uint64], int]
+    batch_columns: Callable[[Batch, Columns, int, c_uint64], int]
     desk_new: Callable[[int, int, Desk], int]
     desk_new_within: Callable[[int, Limits, int, Desk], int]
-    desk_new_within_weight: Callable[[int, Limits, int, int, Desk], int]
     desk_limits: Callable[[Desk, Limits], int]
-    desk_weight: Callable[[Desk, c_uint64], int]
     desk_free: Callable[[Desk], None]
     desk_apply: Callable[[Desk, Batch, Counts], int]
     desk_begin: Callable[[Desk, Batch], int]
@@ -216,9 +262,8 @@ class Library:
     version_levels: Callable[[Version, View, int, Memory, int], int]
     version_labels: Callable[[Version, View, Memory, int], int]
     version_cores: Callable[[Version, View, Memory, int], int]
-    version_row: Callable[[Version, View, int, Memory, int, Memory, int, Memory, int, Memory, int, Memory, int, c_uint64], int]
-    version_edges: Callable[[Version, View, c_uint32, Memory, int, Memory, int, Memory, int, Memory, int, Memory, int,
-        Memory, int, c_uint64], int]
+    version_row: Callable[[Version, View, int, EdgeColumns, c_uint64], int]
+    version_edges: Callable[[Version, View, c_uint32, EdgeColumns, c_uint64], int]
 
     def __init__(self, path: str) -> None:
         """Opens the library at a path. OSError where there is none, where it lacks a function, or has another interface."""

@@ -12,7 +12,7 @@ import itertools
 import os
 import time
 import weakref
-from ctypes import c_uint64
+from ctypes import c_uint64, sizeof
 from typing import Any, Dict, Iterable, List, Optional, Sequence, Tuple
 
 from . import interface
@@ -65,8 +65,8 @@ class LibraryEngine:
     def _new(self, version: int, blocks: int, shape: Limits) -> Opening:
         """An opening with an empty desk, of so many versions before."""
         desk = Owned(interface.Desk(), self.handles.desks)
-        limits = interface.Limits(*shape[:3])
-        check(self.library.desk_new_within_weight(next(_NUMBERS), limits, shape.weight or MOST_WEIGHT, blocks, desk.raw))
+        limits = interface.Limits(sizeof(interface.Limits), *shape[:3], shape.weight or MOST_WEIGHT)
+        check(self.library.desk_new_within(next(_NUMBERS), limits, blocks, desk.raw))
         return Opening(desk, Notes(), version, version, Known.nothing(), blocks, shape)
 
     @property
