@@ -1,7 +1,7 @@
 -- What the calls about a desk tell.
-use Rattle.std.specs.Prelude.{◌≡◌, ◌≢◌, ◌⊎◌, ◌+◌, ℕ, List, [], length, count_by, Option, Some, None, IsSomeAnd, MatchBool, nat_le, ◌&&◌}
+use Rattle.std.specs.Prelude.{◌≡◌, ◌≢◌, ◌⊎◌, ◌+◌, ℕ, List, [], length, count_by, Option, Some, None, IsSomeAnd}
 use Rattle.graph_types.specs.{Step.outcomes, declared.batches.NamedOp.NamedOp}
-use Rattle.graph_version.specs.{Versions.{content, empty_version}, Kept.edge_total, Rebased.IsRebased}
+use Rattle.graph_version.specs.{Versions.{content}, Kept.edge_total, Rebased.IsRebased}
 use Rattle.block_reclamation.specs.Status.{is_free, is_retired, is_in_use, is_reclaimable}
 use Rattle.store_steps.specs.{Desks.DeskView, Opening.{IsVersionZero, opened_desk}, Acceptances.Accepts}
 use Rattle.desk.specs.{Refusals.{Refuses, IsWithin}, declared.{errors.HoldError.TheVariants.NoSeat, owned.Hold.Hold}}
@@ -13,7 +13,7 @@ use Rattle.desk_counts.specs.{Counted.{with_outcomes, none_counted}, declared.co
 use Rattle.store_handles.specs.declared.held.Held.{Held}
 use Rattle.store_handles.specs.declared.held.Held.TheVariants as held
 use Rattle.misteluk_c.specs.declared.desks.{DeskStat.DeskStat, HoldNumbers.HoldNumbers}
-use Rattle.misteluk_c.specs.Held.{held_version_of, batch_in, MakesHeld}
+use Rattle.misteluk_c.specs.Held.{held_version_of, batch_in}
 
 -- the desk that a handle holds, and the identity that this desk's holds have, also while a batch is ready at it
 abbrev pub held_desk : Option Held → Option OwnedView

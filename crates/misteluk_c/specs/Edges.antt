@@ -1,5 +1,5 @@
 -- What the calls that write edges into the columns of C's struct tell.
-use Rattle.std.specs.Prelude.{◌≡◌, ℕ, List}
+use Rattle.std.specs.Prelude.{◌≡◌, ℕ}
 use Rattle.graph_version.specs.Versions.{VersionView}
 use Rattle.version_columns.specs.declared.views.View.{View}
 use Rattle.version_columns.specs.Rows.{Columns, EdgeColumns as EdgeTable, columns, edge_columns, WritesRow, IsRowCount, WritesEdges}
