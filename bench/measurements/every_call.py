@@ -75,7 +75,7 @@ class Run(Loaded):
         most = min(len(self.after) // 16, interface.MOST_OPERATIONS)
         it.columns(interface.REMOVE, numpy.arange(most) * 16, interface.MOST_OPERATIONS)
         self.checks.equal("operations of the batch", self.call.length(it.batch), most)
-        self.apply(it, (0, 0, most, 0, 0, 0))
+        self.apply(it, (0, 0, most, 0, 0, 0), in_steps=True)
         self.loaded.edges()
 
     def collect(self) -> None:

@@ -1,7 +1,7 @@
 """Calls of the C library by their names, with arrays of numpy and with bytes in place of addresses and lengths."""
 from __future__ import annotations
 
-from ctypes import byref, c_uint32, c_uint64, sizeof
+from ctypes import byref, c_uint32, c_uint64, create_string_buffer, sizeof
 from typing import Any, List, NamedTuple, Optional, Set, Tuple
 
 import numpy
@@ -63,9 +63,16 @@ class Caller:
         if code:
             raise Refused(Code(code))
 
-    def interface(self) -> int:
-        self.called.add("interface")
-        return int(self.library.interface()) if self.wrong != "interface" else 0
+    def number(self, name: str) -> int:
+        """A number of the library itself: of its interface or release."""
+        self.called.add(name)
+        return int(getattr(self.library, name)()) if self.wrong != name else 0
+
+    def text(self, code: Code) -> bytes:
+        """What a code says."""
+        found = create_string_buffer(interface.TEXT_BYTES)
+        self("code_text", code, found, interface.TEXT_BYTES)
+        return found.value
 
     def stat(self, desk: Any) -> Any:
         found = interface.Stat()
@@ -106,6 +113,15 @@ class Caller:
     def apply(self, desk: Any, batch: Any) -> Tuple[int, ...]:
         counts = interface.Counts()
         self("desk_apply", desk, batch, counts)
+        return fields(counts)
+
+    def apply_in_steps(self, desk: Any, batch: Any) -> Tuple[int, ...]:
+        """The same in two steps, the first of which is given up once. The batch stays."""
+        counts = interface.Counts()
+        self("desk_begin", desk, batch)
+        self("desk_cancel", desk)
+        self("desk_begin", desk, batch)
+        self("desk_finish", desk, counts)
         return fields(counts)
 
     def length(self, batch: Any) -> int:

@@ -16,6 +16,7 @@ from bench.stores.changed import Changed
 from bench.stores.growing import rmat
 from bench.stores.wanted import Wanted
 from misteluk.engine import interface
+from misteluk.engine.interface import Code
 
 BATCHES, MOST = 1 << 20, interface.MOST_OPERATIONS
 
@@ -64,7 +65,9 @@ class Loaded:
         light = self.call.opened(self.count + 1, 3, BATCHES, 16, 999)
         self.checks.equal("limits with one of weights", self.call.limits(light), (self.count + 1, 3, BATCHES, 999))
         self.call("desk_free", light)
-        self.checks.equal("interface", self.call.interface(), interface.INTERFACE)
+        self.checks.equal("interface", self.call.number("interface"), interface.INTERFACE)
+        self.checks.equal("release", self.call.number("library_version"), interface.VERSION)
+        self.checks.equal("a code in words", self.call.text(Code.NO_KIND), b"there is no such kind")
 
     def load(self) -> None:
         for kind, name in enumerate((b"e", b"f")):
@@ -84,11 +87,12 @@ class Loaded:
         taken = set(Wanted(self.count, self.wanted.row(last)).seen(1).table[2].tolist())
         return last, next(it for it in range(self.count) if it not in taken)
 
-    def apply(self, it: Changed, counts: Tuple[int, ...]) -> None:
-        """Applies the batch, and compares what it leaves."""
-        version = self.call.stat(self.desk).version + 1
-        self.checks.equal("counts of the batch", self.call.apply(self.desk, it.batch), (version, *counts))
-        self.checks.equal("the batch is empty", self.call.length(it.batch), 0)
+    def apply(self, it: Changed, counts: Tuple[int, ...], in_steps: bool = False) -> None:
+        """Applies the batch, and compares what it leaves. In two steps the batch stays."""
+        version, size = self.call.stat(self.desk).version + 1, self.call.length(it.batch)
+        told = self.call.apply_in_steps(self.desk, it.batch) if in_steps else self.call.apply(self.desk, it.batch)
+        self.checks.equal("counts of the batch", told, (version, *counts))
+        self.checks.equal("what the batch has", self.call.length(it.batch), size if in_steps else 0)
         self.call("batch_free", it.batch)
         held, self.after = self.call.hold(self.desk), it.wanted()
         asked = Asked(self.checks, self.call, held[0], self.after)
