@@ -1,13 +1,15 @@
 """How the package is built: which modules import which, what is loaded with it, and the one table of its errors."""
 import ast
 import importlib
+import importlib.machinery
+import importlib.util
 import inspect
 import subprocess
 import sys
 import unittest
 from typing import Iterator, List, Tuple
 
-from support import HERE, Case
+from support import HERE, IS_REPOSITORY, NO_REPOSITORY, TOP, Case
 
 import misteluk
 from misteluk import errors
@@ -76,6 +78,17 @@ class Loading(Case):
             self.assertIs(getattr(importlib.import_module(getattr(misteluk, name).__module__), name), getattr(misteluk, name))
         self.assertLessEqual(set(misteluk.__all__), set(dir(misteluk)))
         self.assertRaisesRegex(AttributeError, "has no attribute 'Fleet'", getattr, misteluk, "Fleet")
+
+
+@unittest.skipUnless(IS_REPOSITORY, NO_REPOSITORY)
+class Interface(unittest.TestCase):
+    def test_it_is_what_the_header_says(self) -> None:
+        """Each code, number, struct and function, as the script of the repository writes them."""
+        loader = importlib.machinery.SourceFileLoader("interface", str(TOP / "tools/interface"))
+        made = importlib.util.module_from_spec(importlib.util.spec_from_loader("interface", loader))
+        loader.exec_module(made)
+        wanted = made.written(made.Header((TOP / "include/misteluk.h").read_text(encoding="utf-8")))
+        self.assertEqual((PACKAGE / "engine/interface.py").read_text(encoding="utf-8"), wanted)
 
 
 class Errors(unittest.TestCase):

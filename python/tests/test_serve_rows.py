@@ -15,7 +15,7 @@ from misteluk.engine.protocol import Denied
 from misteluk.serve import answers, log, wire
 from misteluk.serve.board import Board
 from misteluk.serve.limits import ServerLimits
-from misteluk.serve.metrics import Counts, gauge, of_numbers
+from misteluk.serve.metrics import Counts, Spread, gauge, of_numbers
 from misteluk.serve.people import EVERYONE, NOBODY, People, Person
 from misteluk.serve.talk import Talk, Told, fault_of, part
 from misteluk.values.names import NameTable
@@ -337,6 +337,7 @@ class Numbers(unittest.TestCase):
                          '# HELP misteluk_d Who.\n# TYPE misteluk_d gauge\nmisteluk_d{x="\\"\\\\\\n",y="z"} 1\n')
 
     def test_counts(self):
+        self.assertEqual((Spread().counts, Spread().seconds), ([0] * 9, 0.0))
         counts = Counts()
         for call, status, seconds in (("edge", 200, 0.5), ("edge", 200, 3.0), ("edge", 404, 0.0), ("stat_after", 200, 9.0)):
             counts.answered(call, status, seconds)
