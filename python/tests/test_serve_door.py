@@ -11,7 +11,7 @@ from serving import ServeCase
 from support import as_soon_as
 
 from misteluk import StoreError, connect
-from misteluk.serve.door import room_for
+from misteluk.serve.door import REFUSED, AtDoor, Door, room_for
 from misteluk.serve.limits import ServerLimits
 
 TOKEN = "secret-token"
@@ -189,6 +189,125 @@ class Doors(ServeCase):
         door = self.server.door
         as_soon_as(lambda: not door._there)
         self.assertEqual((door._there, door._strangers, +door._of_peer), ({}, {}, {}))
+
+
+class Loop:
+    """A loop whose timers a test looks at: when each is due, what it calls, and whether it was cancelled."""
+
+    def __init__(self):
+        self.now, self.timers = 0.0, []
+
+    def time(self):
+        return self.now
+
+    def call_later(self, seconds, call, *given):
+        self.timers.append(mock.Mock(due=self.now + seconds, call=lambda: call(*given)))
+        return self.timers[-1]
+
+
+class Rows(unittest.TestCase):
+    """The same by steps, without a server."""
+
+    def setUp(self):
+        self.loop, self.door = Loop(), Door(3)
+
+    def transport(self, peer="10.0.0.1"):
+        found = mock.Mock()
+        found.get_extra_info.return_value = (peer, 7) if peer else ""
+        return found
+
+    def enter(self, *peers):
+        found = [self.transport(it) for it in peers]
+        self.assertEqual([self.door.enter(it, self.loop) for it in found], [True] * len(found))
+        return found
+
+    def told(self, transport):
+        """What was written, and whether the connection was closed, or ended at once."""
+        written = b"".join(it.args[0] for it in transport.write.call_args_list)
+        return written == REFUSED, transport.close.call_count, transport.abort.call_count
+
+    def test_the_oldest_stranger_makes_room(self):
+        self.assertEqual((self.door.first, self.door.strangers, self.door.count, self.door.refused), (10.0, 256, 0, 0))
+        first, second, third = self.enter("a", "b", "c")
+        self.door.let_in(first)
+        fourth, = self.enter("a")
+        self.assertEqual([self.told(it) for it in (first, second, third, fourth)],
+                         [(False, 0, 0), (True, 1, 0), (False, 0, 0), (False, 0, 0)])
+        self.assertEqual((self.door.count, self.door.refused), (3, 1))
+        for it in (third, fourth):
+            self.door.let_in(it)
+        self.assertFalse(self.door.enter(self.transport(), self.loop))
+        self.assertEqual((self.door.count, self.door.refused), (3, 2))
+        for it in (first, second, third, fourth):
+            self.door.leave(it)
+        self.assertEqual((self.door.count, self.door._strangers, dict(self.door._of_peer)), (0, {}, {}))
+        self.assertEqual([it.cancel.call_count for it in self.loop.timers], [1] * 4)
+
+    def test_strangers_of_a_peer(self):
+        self.door.most, self.door.strangers = 9, 2
+        first, second, other = self.enter("a", "a", "b")
+        third, = self.enter("a")
+        self.assertEqual([self.told(it)[0] for it in (first, second, other, third)], [True, False, False, False])
+        self.door.let_in(second)
+        self.door.let_in(second)
+        fourth, = self.enter("a")
+        self.assertEqual(([self.told(it)[0] for it in (second, third, fourth)], self.door.refused), ([False] * 3, 1))
+        local = self.enter(None, None, None)
+        self.assertEqual([self.told(it)[0] for it in local], [False] * 3)
+
+    def test_one_that_is_late(self):
+        it, = self.enter("a")
+        self.assertEqual([timer.due for timer in self.loop.timers], [10.0])
+        self.loop.timers[0].call()
+        self.assertEqual((self.told(it), self.door.count, self.door.refused), ((False, 0, 1), 0, 0))
+
+    def protocol(self, **state):
+        """uvicorn's protocol by this door, and what it is told."""
+        class Protocol:
+            loop, cycle = self.loop, None
+
+            def connection_made(self, transport):
+                self.transport, self.heard = transport, []
+
+            def connection_lost(self, fault):
+                self.heard.append(fault)
+
+            def data_received(self, data):
+                self.heard.append(data)
+        return type("Both", (AtDoor, Protocol), {"door": self.door, **state})()
+
+    def test_a_connection_without_room(self):
+        self.door.most = 0
+        protocol, it = self.protocol(), self.transport()
+        protocol.connection_made(it)
+        protocol.data_received(RIGHT)
+        self.assertEqual((self.told(it), it.write_eof.call_count, protocol.heard), ((True, 0, 0), 1, []))
+        self.assertEqual([timer.due for timer in self.loop.timers], [1.0])
+        self.loop.timers[0].call()
+        self.assertEqual(self.told(it), (True, 0, 1))
+
+    def test_time_for_a_head(self):
+        """From its first byte on, also where it comes in parts; none for a request that is being answered."""
+        protocol, it = self.protocol(), self.transport()
+        protocol.connection_made(it)
+        self.loop.timers.clear()
+        for now in (100.0, 104.0, 111.0):
+            self.loop.now, protocol.timeout_keep_alive_task = now, None
+            protocol.data_received(b"x")
+        self.assertEqual([timer.due for timer in self.loop.timers], [110.0, 110.0, 111.0])
+        self.loop.timers[0].call()
+        self.assertEqual((self.told(it), protocol.heard), ((False, 0, 1), [b"x"] * 3))
+        for cycle, is_timed in ((mock.Mock(response_complete=False), False), (mock.Mock(response_complete=True), True),
+                                (None, True)):
+            protocol.cycle, protocol.timeout_keep_alive_task, self.loop.now = cycle, None, 200.0
+            self.loop.timers.clear()
+            protocol.data_received(b"x")
+            self.assertEqual([timer.due for timer in self.loop.timers], [210.0] * is_timed)
+        protocol.timeout_keep_alive_task = "a timer"
+        protocol.data_received(b"x")
+        self.assertEqual((len(self.loop.timers), protocol.begun), (1, 0.0))
+        protocol.connection_lost(None)
+        self.assertEqual((self.door.count, protocol.heard[-1]), (0, None))
 
 
 if __name__ == "__main__":
