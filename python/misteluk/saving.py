@@ -80,7 +80,6 @@ def save(session: "Session[Any, Any]", path: Path, progress: Optional[bool] = No
     """Writes the version that the session holds as one file. See `Session.save`."""
     ending = files.ending_of(path)
     files.place_of(path)
-    session.must_be_open()
     content = content_of(session.held)
     operations = operations_of(content)
     room = Room(operations)

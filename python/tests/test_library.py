@@ -94,6 +94,12 @@ class InProcess(Case):
             store.commit()
             self.assertEqual((list(store.open().degrees())[-2:], sizes.call_count), ([names[-1], "z" * 64], 1))
 
+    def test_a_handle_is_taken_again(self):
+        """Calls that come one after another have one copy of a version's handle between them."""
+        session = self.store("insert k a b 1 1").open()
+        for _ in range(3):
+            self.assertEqual((session.edge("k", "a", "b").weight, len(session.held.kept.idle)), (1, 1))
+
     def test_tables_are_kept(self):
         """A question that was asked before costs no call: the latest ones, up to so many bytes, or the last one alone."""
         store = self.store("insert k a b 1 1", "insert l b c 2 9", seats=3)

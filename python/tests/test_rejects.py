@@ -51,6 +51,10 @@ class Rejects(Case):
         found = self.load(self.file("good.csv", "a,b,1,1\n"), skip_bad=True, **ROWS)[1]
         self.assertEqual((found.bad, found.last_bad), (0, None))
 
+    def test_how_much_of_a_row_is_told(self):
+        for size, told in ((199, "x" * 199), (200, "x" * 200), (201, "x" * 200 + " ..")):
+            self.assertEqual(rejects.rejected(3, "why", ["x" * size], ","), (3, "why", told))
+
     def test_mended_rows_are_loaded_by_the_same_options(self):
         """The file has the feed's own header, delimiter and rows, with the columns that nobody reads too."""
         rows = [GOOD, "32.03.2024;ana;cat;late;2,00\n", '05.03.2024;bob;"ca;t";"said ""x""";1.5\n', "06.03.2024;bob;dan;;3\n"]

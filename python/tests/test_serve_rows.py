@@ -1,4 +1,5 @@
 """What a server and its clients do by small parts, in rows of each form: heads, hosts, columns, faults, lines of a log."""
+import asyncio
 import json
 import logging
 import sys
@@ -13,7 +14,7 @@ from test_serve_talk import CHUNKED, WHOLE, Link
 from misteluk import errors
 from misteluk.engine.protocol import Denied
 from misteluk.serve import answers, log, wire
-from misteluk.serve.board import Board
+from misteluk.serve.board import Board, Full
 from misteluk.serve.limits import ServerLimits
 from misteluk.serve.metrics import Counts, Spread, gauge, of_numbers
 from misteluk.serve.people import EVERYONE, NOBODY, People, Person
@@ -81,6 +82,38 @@ class Gates(unittest.TestCase):
         self.assertEqual(self.asks("/v1/stat", {**HOST, "misteluk-server": "run-1"}), EVERYONE)
         self.assertEqual(self.asks("/v1/stat", {**HOST, "misteluk-server": "run-2"}), (410, "SessionClosed"))
         self.assertEqual(self.asks("/v1/stat", {**OTHER, "misteluk-server": "run-2"}), (403, "NotAllowed"))
+
+
+    def outcome(self, fault, is_begun):
+        """What becomes of a request whose answer has a fault: the statuses that are sent, how often its connection is cut and the
+        fault logged, and what is raised."""
+        async def app(scope, receive, send):
+            if is_begun:
+                await send({"type": "http.response.start", "status": 200})
+            raise fault
+        sent, link = [], mock.Mock()
+
+        async def send(_, message):
+            sent.append(message)
+        gate = Gate(app, People(), False, Run("run-1"), Door(9), Counts())
+        scope = {"type": "http", "path": "/v1/stat", "headers": [(b"host", b"localhost")]}
+        with mock.patch.object(log, "fault") as logged:
+            found = asyncio.run(gather(gate(scope, None, send.__get__(link))))
+        statuses = [it["status"] for it in sent if it["type"].endswith("start")]
+        return statuses, link.transport.abort.call_count, logged.call_count, found
+
+    def test_faults_of_an_answer(self):
+        """One that comes before it is told; amid it a reader that takes nothing is cut off, and any other fault is raised."""
+        full, other = Full("TooLong", "why", 1), KeyError("x")
+        self.assertEqual(self.outcome(full, True), ([200], 1, 0, None))
+        self.assertEqual(self.outcome(other, True), ([200], 0, 1, other))
+        self.assertEqual(self.outcome(other, False), ([500], 0, 1, None))
+        self.assertEqual(self.outcome(full, False), ([500], 0, 1, None))
+
+
+async def gather(call):
+    """What a call raises, or nothing."""
+    return (await asyncio.gather(call, return_exceptions=True))[0]
 
 
 class Talks(unittest.TestCase):
