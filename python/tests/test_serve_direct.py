@@ -11,6 +11,8 @@ from support import optional
 
 from misteluk import connect
 from misteluk.serve.limits import RUN, ServerLimits
+from misteluk.serve.metrics import Counts
+from misteluk.serve.people import EVERYONE
 
 if HAS_PACKAGES:
     from misteluk.serve import answers, direct
@@ -242,6 +244,40 @@ class Forms(unittest.TestCase):
         for first in (b"POST /v1/sessions/abc/ask?x=1 HTTP/1.1", b"POST /v1/sessions/a%62/ask HTTP/1.1",
                       b"POST /v1/rows HTTP/1.1", b"GET /v1/sessions/abc/ask HTTP/1.1", b"POST /v1/sessions/abc/ask HTTP/1.0"):
             self.assertIsNone(direct.headers_of(first + b"\r\nHost: localhost"), first)
+
+    def responder(self, person=None, told=None):
+        """What answers little questions: of who is let in, and with what is known."""
+        gate, answered = mock.Mock(counts=Counts(), headers=[]), mock.Mock()
+        gate.asks.return_value, answered.at_once.side_effect = person, told
+        return direct.Responder(gate, answered, ServerLimits(body=1_024)), gate.counts.spread("ask")
+
+    def test_who_asks(self):
+        for person, wanted in ((EVERYONE, ("abc-_9", EVERYONE)), (mock.Mock(status_code=401), None)):
+            self.assertEqual(self.responder(person)[0].asked_of(self.HEAD), wanted)
+        self.assertIsNone(self.responder(EVERYONE)[0].asked_of(self.HEAD + b"\r\nX: y"))
+
+    def test_what_is_answered(self):
+        """A question without a fault, whose answer is known; it alone is counted."""
+        for body, told, wanted in ((b"{}", [b"x"], b"x"), (b"{}", [None], None), (b"{}", KeyError, None), (b"{} ", [b"x"], None),
+                                   (b"{", [b"x"], None), (b"\xff", [b"x"], None), (b"{" + b" " * 1_022 + b"}", [b"x"], b"x"),
+                                   (b"{" + b" " * 1_023 + b"}", [b"x"], None)):
+            responder, spread = self.responder(told=told)
+            self.assertEqual(responder.told(direct.Asked("abc", EVERYONE), body), wanted, body)
+            self.assertEqual(sum(spread.counts), int(wanted is not None))
+
+    def test_when_a_silent_connection_ends(self):
+        """Behind its last question, whichever way that was answered."""
+        class Silent:
+            def timeout_keep_alive_handler(self):
+                self.ended = True
+        for heard, now, is_closing, left in ((100.0, 102.0, False, 3.0), (100.0, 104.5, False, 0.5), (100.0, 102.0, True, None),
+                                             (100.0, 105.0, False, "ended"), (100.0, 109.0, True, "ended")):
+            it = direct.made(Silent, None)()
+            it.loop, it.transport, it.heard, it.timeout_keep_alive, it.ended = mock.Mock(), mock.Mock(), heard, 5.0, False
+            it.loop.time.return_value, it.transport.is_closing.return_value = now, is_closing
+            it.timeout_keep_alive_handler()
+            again = [mock.call(left, it.timeout_keep_alive_handler)] if left not in (None, "ended") else []
+            self.assertEqual((it.loop.call_later.call_args_list, it.ended), (again, left == "ended"))
 
 
 if __name__ == "__main__":

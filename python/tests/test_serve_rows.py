@@ -187,6 +187,15 @@ class Talks(unittest.TestCase):
         for body in (b"x", b"[]", b"1"):
             self.assertRaisesRegex(errors.Misread, "no server of a store", fault_of, Told(400, "application/json", body))
 
+    def test_what_is_a_fault(self):
+        for status in (200, 204, 399, 400, 500):
+            with mock.patch.object(Talk, "ask", return_value=Told(status, "", b"")):
+                try:
+                    found = Talk("http://h").call("GET", "/x").status
+                except errors.NoServer:
+                    found = "a fault"
+            self.assertEqual(found, status if status < 400 else "a fault")
+
     def test_what_became_of_a_server(self):
         talk = Talk("http://h:7")
         for fault, told in ((ConnectionError("why"), "http://h:7 doesn't answer: why"),

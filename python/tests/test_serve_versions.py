@@ -33,6 +33,7 @@ class Versions(Case):
         leases = [self.board.lease() for _ in range(20)]
         self.advance()
         self.assertEqual(self.told(), [(0, 20), (1, 0)])
+        self.assertEqual([it.is_last for it in self.board.held()], [False, True])
         for it in leases:
             self.board.let_go(it.name)
         self.assertEqual((self.told(), self.at.engine.open_count), ([(1, 0)], 1))
