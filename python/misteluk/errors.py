@@ -264,9 +264,10 @@ class Locked(JournalError):
 
 
 class SequenceTaken(JournalError):
-    """A producer sent another batch by this number before, or a later one. `last` is the producer's last number."""
+    """A producer sent another batch by this number before, or a later one; or another batch came by this key. `last` is the
+    producer's last number, and `None` of a key."""
 
-    def __init__(self, text: str, last: int) -> None:
+    def __init__(self, text: str, last: Optional[int]) -> None:
         self.last = last
         super().__init__(text)
 

@@ -161,9 +161,10 @@ class Ledger:
         return done
 
     @alone
-    def commit(self, collect: bool, batch: int) -> Commit:
+    def commit(self, collect: bool, batch: int, feed: Optional[str] = None) -> Commit:
         """Applies what is pending now, and gives the sum of what was applied and not told yet; where a batch is refused the error
-        has it. A caller puts `telling`, of which that is the sum, into `taken` as the last thing it does: then it was told."""
+        has it. `feed` says how far a followed feed is in with that. A caller puts `telling`, of which that is the sum, into `taken`
+        as the last thing it does: then it was told."""
         if self.is_closed:
             raise StoreError("the store is closed")
         self._forget_taken()
@@ -172,7 +173,7 @@ class Ledger:
                 self._land()
             left = len(self.pending)
             while left or not self._books.untold:
-                left -= self._fly_first(min(batch, left), collect)
+                left -= self._fly_first(min(batch, left), collect, feed if left <= batch else None)
         except Refused as fault:
             fault.applied = sum_of(self._books.untold) if self._books.untold else None
             raise
@@ -180,11 +181,13 @@ class Ledger:
             self.telling = self._books.untold
         return sum_of(self.telling)
 
-    def _fly_first(self, count: int, collect: bool) -> int:
+    def _fly_first(self, count: int, collect: bool, feed: Optional[str]) -> int:
         """Applies so many of the pending operations, or fewer where a server takes none so long; gives how many."""
         while True:
             try:
-                self._fly(Operations(self.pending[:count]), collect, True)
+                batch = Operations(self.pending[:count])
+                batch.feed = feed
+                self._fly(batch, collect, True)
                 return count
             except TooLarge:
                 if count < 2:

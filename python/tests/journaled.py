@@ -98,6 +98,13 @@ def ran(script):
     return edges, [it.split()[0] for it in names]
 
 
+def of_sqlite(text, name):
+    """A fault as SQLite raises it."""
+    fault = sqlite3.OperationalError(text)
+    fault.sqlite_errorname = name
+    return fault
+
+
 class JournalCase(Case):
     maxDiff = 2_000
 

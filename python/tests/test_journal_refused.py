@@ -1,12 +1,11 @@
 """Batches that a store with a file doesn't take, since it refuses them or the file can't be written: all is as it was before."""
 import contextlib
 import os
-import sqlite3
 import threading
 import unittest
 from unittest import mock
 
-from journaled import JournalCase, Model, batch, put, told
+from journaled import JournalCase, Model, batch, of_sqlite, put, told
 
 from misteluk import JournalFault, KindsFull, Limits, NamesFull, NotWritten, OverLimit, PoolEmpty, Store
 from misteluk.engine.protocol import WHOLE
@@ -129,12 +128,6 @@ class Failing:
 
     def __getattr__(self, name):
         return getattr(self.inner, name)
-
-
-def of_sqlite(text, name):
-    fault = sqlite3.OperationalError(text)
-    fault.sqlite_errorname = name
-    return fault
 
 
 class Failed(JournalCase):

@@ -151,6 +151,8 @@ def add_follow(follow: argparse.ArgumentParser) -> None:
 
 
 def add_serve(parser: argparse.ArgumentParser) -> None:
+    parser.add_argument("path", nargs="?", metavar="STORE", help="a store's file, which is made or gone on with; without one the "
+                        "store is in memory alone (where --set or --add is said, the last file that is named is the feed)")
     add_feed_options(parser, blocks=f"{serve.ROOM:,}, and more once they are needed",
                      saved="; without one a client posts the rows", is_needed=False)
     live = parser.add_argument_group("what goes in and out, and when")

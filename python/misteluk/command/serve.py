@@ -7,9 +7,12 @@ import gc
 import os
 import signal
 import sys
-from typing import Any, Dict, Optional, Tuple
+from typing import Any, Dict, Iterator, Optional, Tuple
 
 from ..feeds.feed import STANDARD_INPUT
+from ..feeds.following import Following
+from ..feeds.steps import FeedMark
+from ..journal.tables import SYNCS
 from ..serve import log
 from ..serve.door import raise_descriptors
 from ..serve.ending import Deadline
@@ -45,6 +48,8 @@ def add_options(parser: argparse.ArgumentParser) -> None:
                         "one")
     listen.add_argument("--log", choices=FORMS, help="log each request that is refused, each post and each hold on standard "
                         "error, as text or JSON; else faults alone are logged")
+    listen.add_argument("--sync", choices=SYNCS, help="of a store's file: have each batch on the disk before it is answered "
+                        "(full); normal: a loss of power may cost the last ones; off: it may damage the file")
     listen.add_argument("--save", metavar="FILE", help="begin with the version that this file has, if it is there, and save the "
                         "last one in it at intervals and at the end. (A file that is followed is read again, and needs none.)")
     listen.add_argument("--save-every", type=float, default=USUAL_EVERY, metavar="SECONDS", help="how often it is saved, where "
@@ -65,12 +70,23 @@ def add_options(parser: argparse.ArgumentParser) -> None:
                         f"graph are answered at once ({usual.questions})")
 
 
-def serve(words: argparse.Namespace, how: Dict[str, Any]) -> int:
-    """Serves a store until a signal ends it."""
-    limits = ServerLimits(words.idle, words.clients, words.body, words.longest, words.questions, words.versions,
-                          words.each)
+def take_files(words: argparse.Namespace) -> None:
+    """Finds which file is the store's, and which the feed. Raises `ValueError` where they can't be."""
+    if words.by is not None and words.file is None:
+        words.path, words.file = None, words.path
     if words.file is not None and words.by is None:
         raise ValueError("a feed wants --set or --add")
+    if words.path is not None and words.save is not None:
+        raise ValueError("a store's file has each batch: --save is for a store that is in memory alone")
+    if words.path is None and words.sync is not None:
+        raise ValueError("--sync is for a store's file, which is named first")
+
+
+def serve(words: argparse.Namespace, how: Dict[str, Any]) -> int:
+    """Serves a store until a signal ends it."""
+    take_files(words)
+    limits = ServerLimits(words.idle, words.clients, words.body, words.longest, words.questions, words.versions,
+                          words.each)
     if words.save is not None and words.file not in (None, STANDARD_INPUT):
         raise ValueError("a file that is followed is read again at the start: --save is for rows that a pipe or clients bring")
     with log.written(words.log):
@@ -123,6 +139,12 @@ def store_of(words: argparse.Namespace, keeper: Optional[Keeper]) -> Tuple[Store
     """The store that is served, and what it begins with."""
     options = {"blocks": words.blocks, "seats": records.MOST_SEATS, "endless": True,
                "weight_scale": words.weight_scale, "times": "iso" if words.dates else words.times, "rounding": words.rounding}
+    if words.path is not None:
+        opened = Store(words.path, sync=words.sync or "full", **options)
+        version, base, batches, _ = opened.file.recovered
+        log.state("recovered", f"{words.path} has version {version}: {batches} batches behind the base of version {base}",
+                  version=version, base=base, batches=batches)
+        return opened, f"with version {version} of its file"
     store = None if keeper is None else keeper.restored(**options)
     if store is None or keeper is None:
         return Store(**options), "without an edge" if words.file is None else "with its feed"
@@ -134,13 +156,30 @@ def store_of(words: argparse.Namespace, keeper: Optional[Keeper]) -> Tuple[Store
 def follow(server: Server, words: argparse.Namespace, how: Dict[str, Any]) -> None:
     """Has the feed go in that is named."""
     if words.file is not None:
-        pace = {"every": words.every, "keep": words.keep, "ahead": words.ahead, "batch": words.batch,
-                "skip_bad": words.skip_bad, "rejects": words.rejects}
-        server.feeding.follow(server.store.follow(words.file, progress=False, **pace, **how))
+        feeds = feeds_of(server.store, words, how)
+        server.feeding.follow(next(feeds), lambda: next(feeds, None))
+
+
+def feeds_of(store: Store[Any, Any], words: argparse.Namespace, how: Dict[str, Any]) -> Iterator[Following]:
+    """The feed that is named. Where the store has a file, first the rest of one that was rotated away before all of it was in,
+    and then each one that takes the place of one that was read to its end."""
+    pace = {"every": words.every, "keep": words.keep, "ahead": words.ahead, "batch": words.batch, "skip_bad": words.skip_bad,
+            "rejects": words.rejects}
+    is_log = words.path is not None and words.file != STANDARD_INPUT and os.path.isfile(words.file)
+    while True:
+        rest = FeedMark.of(words.file, os.stat(words.file)).rest(store.engine.feeds) if is_log else None
+        if rest is not None:
+            log.state("rotated", f"{words.file} is another file now: the rest of the one before goes in first, from {rest}")
+        found = store.follow(rest or words.file, progress=False, until_end=rest is not None, **pace, **how)
+        found.recipe = found.recipe._replace(rotates=is_log)
+        yield found
+        if not is_log:
+            return
 
 
 def tell(server: Server, words: argparse.Namespace) -> None:
     feed = {None: "the rows that a client posts", STANDARD_INPUT: "standard input"}.get(words.file, words.file)
+    feed = feed if words.path is None else f"{words.path} and {feed}"
     alone = "this user alone" if server.address.path else "this machine alone"
     whom = "those that have a token" if server.people.are_any else alone
     print(f"misteluk: {server.url} serves {feed}, for {whom}", flush=True)

@@ -23,7 +23,7 @@ from .guard import Guard, Notes, Owned, alone
 from .held import LibraryVersion, Opening
 from .interface import Code
 from .operations import REMOVE, Operations
-from .protocol import LIBRARY, Denied
+from .protocol import LIBRARY, NO_FEEDS, Denied
 from ..errors import NoSeat, SessionClosed, StoreError
 from ..values.answers import Collected, Commit, Rebased, Renewed, Stat
 from ..values import records
@@ -41,7 +41,7 @@ class LibraryEngine:
     desk with the same edges takes its place once they are needed. `endless`: before that it lets names and kinds go that have no
     edge. A desk without a limit on batches keeps none of those that it has applied."""
 
-    name, most_blocks = LIBRARY, MOST_BLOCKS
+    name, most_blocks, feeds = LIBRARY, MOST_BLOCKS, NO_FEEDS
 
     def __init__(self, blocks: Optional[int], seats: int, endless: bool, limits: Limits = Limits(),
                  library: "Optional[str | os.PathLike[str]]" = None) -> None:

@@ -119,14 +119,15 @@ class Numbered(NamedTuple):
 
 
 class Post(NamedTuple):
-    """Whose batch it is, and its number there: the same one is sent again until its answer came, and is applied once."""
+    """Whose batch it is, and its number there: the same one is sent again until its answer came, and is applied once. Without a
+    number it is a key, which no other batch of who feeds has."""
 
     producer: str
-    sequence: int
+    sequence: Optional[int]
 
     def checked(self) -> "Post":
         """Itself; raises `ValueError` where a producer has no name, or a number is none from 0 to 2^63 - 1."""
-        if not self.producer or not 0 <= self.sequence <= records.MOST_TIME:
+        if not self.producer or self.sequence is None or not 0 <= self.sequence <= records.MOST_TIME:
             raise ValueError("a commit that is applied once has a producer's name and a sequence from 0 to 2^63 - 1, and not "
                              f"{self.producer!r} and {self.sequence}")
         return self
@@ -134,12 +135,15 @@ class Post(NamedTuple):
 
 class Operations:
     """Operations that go in together, as rows or as columns, and where each came from, by its place. `post` says whose batch it
-    is where it is to be applied once, and `terms` the names and units of a feed whose first batch it is."""
+    is where it is to be applied once, `terms` the names and units of a feed whose first batch it is, `feeder` who fed it, by
+    name, and `feed` of which followed feed it is, and to which place, as JSON."""
 
     def __init__(self, rows: Optional[Sequence[Row]] = None, columns: Optional[Numbered] = None,
                  place: Optional[Callable[[int], Place]] = None, post: Optional[Post] = None) -> None:
         self._rows, self._columns, self.place, self.post = rows, columns, place, post
         self.terms: "Optional[Terms]" = None
+        self.feeder: Optional[str] = None
+        self.feed: Optional[str] = None
         self.size = len(rows) if rows is not None else len(columns.codes) if columns else 0
 
     @property

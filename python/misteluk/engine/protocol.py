@@ -12,7 +12,7 @@ from array import array
 from collections import Counter
 from itertools import accumulate
 from operator import itemgetter
-from typing import Any, List, NamedTuple, Optional, Protocol, Sequence, Tuple
+from typing import Any, List, Mapping, NamedTuple, Optional, Protocol, Sequence, Tuple
 
 from .operations import Operations
 from ..values import records
@@ -24,6 +24,9 @@ from ..values.limits import Limits
 Ends = Tuple[str, str, str]
 # An edge's weight, and its first and recent time.
 Marks = Tuple[int, int, int]
+
+# What an engine without a file of its own knows of followed feeds.
+NO_FEEDS: Mapping[str, str] = {}
 
 
 class Scope(NamedTuple):
@@ -210,6 +213,10 @@ class Engine(Protocol):
     limits: Limits
     most_blocks: int
     grows: bool
+
+    @property
+    def feeds(self) -> Mapping[str, str]:
+        """How far followed feeds are in, by name, where it has a file that knows it."""
 
     def told(self) -> str:
         """Which engine it is, for a person."""

@@ -56,11 +56,12 @@ class Apart(Iterator[Applied]):
     def __init__(self, following: Following) -> None:
         self.store, self.name, self._terms = following.store, following.name, following.terms
         self._recipe, self._begin, self._file = following.recipe, following.begin, os.dup(following.descriptor)
-        self._is_input, self._rejects = following.descriptor == 0, following.rejects
+        self._is_input, self._rejects, self._mark = following.descriptor == 0, following.rejects, following.mark
         self.last_bad: Optional[Rejected] = None
+        self.place = following.resumed
         following.close()
         self.ended_half = self._is_stopped = False
-        self.place, self.killed, self._in_vain = FeedPlace(), 0, 0
+        self.killed, self._in_vain = 0, 0
         self._lock, self._is_over = threading.Lock(), threading.Event()
         # Since when a batch is waited for; nothing while one is applied.
         self._since: Optional[float] = None
@@ -77,6 +78,8 @@ class Apart(Iterator[Applied]):
 
     def _start(self) -> None:
         """Begins a process that reads on from the place."""
+        if self._begin is not None:
+            os.lseek(self._file, self._begin, os.SEEK_SET)
         self._out, theirs = os.pipe()
         said, self._say = os.pipe()
         descriptor = 0 if self._is_input else self._file
@@ -150,7 +153,6 @@ class Apart(Iterator[Applied]):
                 lost = "what it had read behind them is lost" if self._begin is None else "what is behind them is not"
                 raise ReadFault("ReaderEnded", f"{ended}, and {lost}")
             self._give_back()
-            os.lseek(self._file, self._begin, os.SEEK_SET)
             self._start()
             self.killed, self._in_vain = self.killed + 1, self._in_vain + 1
         LOG.warning(f"{ended}, and another one reads on")
@@ -165,8 +167,10 @@ class Apart(Iterator[Applied]):
                 raise ReadFault("BadName", f"{told!r} has another id here than {name}")
         numbered = Numbered(codes, kinds, sources, targets, weights, times, Encoded(kind_text.tobytes(), kind_ends),
                             Encoded(text.tobytes(), ends))
+        batch = Operations(columns=numbered)
+        batch.feed = None if self._mark is None else self._mark.written(place)
         try:
-            commit = ledger.apply(Operations(columns=numbered), True, (self._terms, head["kinds"]))
+            commit = ledger.apply(batch, True, (self._terms, head["kinds"]))
         except StoreError as fault:
             rows = f"{place.rows - self.place.rows} rows, lines {head['first']} to {place.line}, aren't"
             raise ReadFault(getattr(fault, "word", "") or type(fault).__name__, f"{fault}; {self.told}, and {rows}") from fault

@@ -7,10 +7,10 @@ import time
 from collections import deque
 from itertools import repeat
 from types import TracebackType
-from typing import TYPE_CHECKING, Any, Callable, Deque, Iterator, List, Optional, Protocol, Tuple, Type, Union
+from typing import TYPE_CHECKING, Any, Callable, Deque, Iterator, List, Mapping, Optional, Protocol, Tuple, Type, Union
 
 from ..values import records
-from ..errors import BadRows, NoAnswer, PoolEmpty, Refused, StoreError, Uncommitted, refusal
+from ..errors import BadRows, FeedFault, NoAnswer, PoolEmpty, Refused, StoreError, Uncommitted, refusal
 from .advice import Reading, advise
 from .calls import Calls
 from .feed import Block, Feed, Path, part_of, turned
@@ -22,7 +22,7 @@ from ..engine.operations import EXPIRY
 from .progress import Progress
 from .rejects import Bin, Lines, Rejected, Rejects
 from .spans import Span, ahead_time, kept_time, seconds_of
-from .steps import Followed, FeedPlace, Pace, Recipe
+from .steps import FeedMark, FeedPlace, Followed, Pace, Recipe
 from .terms import Terms
 
 if TYPE_CHECKING:
@@ -61,6 +61,9 @@ class Following(Iterator[Followed]):
         self._since = 0.0
         self._in = self._line = self._done = 0
         self._newest, self._has_expiry = -1, False
+        # Which file it is, where one is followed, and how far a store's file had it in at first.
+        self.mark: Optional[FeedMark] = None
+        self.resumed = FeedPlace()
         # The step that was made and isn't given yet.
         self._made: Deque[Followed] = deque()
         self._ending: Optional[Exception] = None
@@ -81,13 +84,23 @@ class Following(Iterator[Followed]):
     @property
     def place(self) -> FeedPlace:
         """How far it is in."""
-        return FeedPlace(self._in, self._line, self._newest, self._source.place, self._source.mark, self._done, self._count.bad)
+        return FeedPlace(self._in, self._line, self._newest, self._source.place, self._source.mark, self._done, self._count.bad,
+                         bool(self._blocks) or self._incoming.is_half)
 
     def go_on(self, place: FeedPlace) -> None:
         """Passes over what is in to a place, before the first step. The file is read from where the reading began."""
         self._in, self._line, self._newest, self._done, self._count.bad = *place[:3], place.done, place.bad
         self._source.was_read(place.read, place.mark)
         self._incoming.rows.passed = place.done
+
+    def resume(self, feeds: Mapping[str, str]) -> None:
+        """Goes on where a store's file has the feed in to, which knows these. Raises `FeedFault` where the path has another file
+        by now, and the one before isn't in."""
+        if self.begin is not None:
+            self.mark = FeedMark.of(self.name, os.fstat(self.descriptor), self.begin)
+            self.resumed = self.mark.known(feeds)
+            if self.resumed.done:
+                self.go_on(self.resumed)
 
     @property
     def terms(self) -> Terms:
@@ -263,7 +276,7 @@ class Following(Iterator[Followed]):
             self._ledger.pending.append((*EXPIRY, bound))
         pending = self.store.pending
         try:
-            receipt = self._ledger.commit(True, records.MOST_OPERATIONS)
+            receipt = self._ledger.commit(True, records.MOST_OPERATIONS, self._told_place())
             self._ledger.taken.append(self._ledger.telling)
         except StoreError as fault:
             raise self._with_rows(fault, self.store.pending < pending) from fault
@@ -272,6 +285,12 @@ class Following(Iterator[Followed]):
         # (without that a bad row ends the feed, which is told then)
         skipped = (self._count.bad, self._count.last_bad) if self._pace.skip_bad else (0, None)
         return Followed(receipt, self._in, skipped[0], self._line, newest, skipped[1], self._source.behind)
+
+    def _told_place(self) -> Optional[str]:
+        """How far the feed is in with what is pending, as a store's file has it."""
+        if self.mark is None:
+            return None
+        return self.mark.written(self.place._replace(rows=self._in + len(self._lines), line=self._lines[-1]))
 
     def _take_in(self) -> None:
         self._in, self._line, self._lines = self._in + len(self._lines), self._lines[-1], []
@@ -341,14 +360,20 @@ def follow(store: "Store[Any, Any]", feed: Union[Path, Opened], *, by: str, ever
     turned(Feed("", ()), names=how.names)
     place = feed if isinstance(feed, (str, os.PathLike)) or rejects is None else feed.fileno()
     kept_rows = None if rejects is None else Rejects(rejects, how.encoding, place)
-    return following_of(store, feed, Recipe(form, by, batch, until_end, pace), terms, progress, kept_rows)
+    following = following_of(store, feed, Recipe(form, by, batch, until_end, pace), terms, progress, kept_rows)
+    try:
+        following.resume(store.engine.feeds)
+    except FeedFault:
+        following.close()
+        raise
+    return following
 
 
 def following_of(store: "Store[Any, Any]", feed: Union[Path, Opened], recipe: Recipe, terms: Terms,
                  progress: Optional[bool], rejects: Optional[Keeps] = None) -> Following:
     """A feed that is followed into a store by a recipe. See `follow`."""
     how = recipe.pace.how
-    source = Growing(feed, how.encoding, recipe.until_end)
+    source = Growing(feed, how.encoding, recipe.until_end, recipe.rotates)
     rows: Rows = (SnapRows(source.name, how.columns.usual_kind, how.third) if recipe.form == "snap" else
                   DelimitedRows(source.name, how.columns, how.delimiter, how.header))
     store.ledger.take_terms(terms)

@@ -7,6 +7,7 @@ import io
 import os
 import select
 import stat
+import time
 from typing import Iterator, List, Optional, Protocol, Sequence, Union
 
 from .delimited import Picked, even_columns, must_be_sign, whole_rows
@@ -18,8 +19,9 @@ from .pipes import has_more
 # How many bytes are read at once, how many characters a line may have, and by how many bytes at its begin and before the place
 # a file is known.
 MOST_READ, MOST_LINE, MARKED = 1 << 16, 1 << 20, 1 << 10
-# How long a file that has nothing new is left alone, in seconds.
-REST = 0.1
+# How long a file that has nothing new is left alone, and for how long nothing comes of one that was replaced until the new one is
+# read, in seconds.
+REST, ROTATED = 0.1, 1.0
 
 
 class Opened(Protocol):
@@ -52,14 +54,24 @@ class Mark:
         return hashlib.sha256(data).hexdigest()
 
 
+def is_replaced(path: str, file: int) -> bool:
+    """Whether another file stands at the path of an open one."""
+    try:
+        return not os.path.samestat(os.stat(path), os.fstat(file))
+    except OSError:  # (none is there, or nobody knows)
+        return False
+
+
 class Growing:
     """The whole lines of a file, a pipe, or standard input (`-`), as they come.
 
     A file is followed when it was read to its end, unless `until_end`; anything else ends where its writers do. A line that has
     no end yet is none, but at the end of all. A file that is cut short while it is read, or written anew, raises `FeedFault`.
+    With `rotates` one ends once another file stands at its path, and nothing comes any more.
     """
 
-    def __init__(self, source: Union[Path, Opened], encoding: str = "utf-8", until_end: bool = False) -> None:
+    def __init__(self, source: Union[Path, Opened], encoding: str = "utf-8", until_end: bool = False,
+                 rotates: bool = False) -> None:
         codec = codec_of(encoding)
         if isinstance(source, (str, os.PathLike)):
             self.name, known = feed_name(source), 0 if source == STANDARD_INPUT else None
@@ -73,7 +85,9 @@ class Growing:
         self._file = self._raw.fileno()
         self._is_file = stat.S_ISREG(os.fstat(self._file).st_mode)
         self._is_followed = self._is_file and known != 0 and not until_end
-        self._is_dry = False
+        self._is_dry, self._rotates = False, rotates
+        # Since when nothing came while another file stood at the path.
+        self._replaced: Optional[float] = None
         # Where the reading of a file begins, and how long it is at least where some of it was read before.
         self.begin = os.lseek(self._file, 0, os.SEEK_CUR) if self._is_file else None
         self.least, self._mark, self._before = 0, Mark(), ""
@@ -144,9 +158,10 @@ class Growing:
             return []
         data = os.read(self._file, MOST_READ)
         self._is_dry = not data
+        self._replaced = None if data else self._replaced
         if self._is_file and data:
             self._must_be_the_same(data)
-        if self._is_dry and self._is_followed:
+        if self._is_dry and self._is_followed and not self._is_rotated():
             self._must_be_whole()
             return []
         self.is_at_end = not data
@@ -168,6 +183,15 @@ class Growing:
         poll = select.poll()
         poll.register(self._file, select.POLLIN)
         return any(it & select.POLLIN for _, it in poll.poll(0))
+
+    def _is_rotated(self) -> bool:
+        """Whether another file stands at the path, as where a log was rotated, and nothing came any more for a while."""
+        if not self._rotates or not is_replaced(self.name, self._file):
+            self._replaced = None
+            return False
+        now = time.monotonic()
+        self._replaced = now if self._replaced is None else self._replaced
+        return now >= self._replaced + ROTATED
 
     def _must_be_the_same(self, data: bytes) -> None:
         """Raises `FeedFault` where what a file had before isn't there any more by the time that more of it was read."""

@@ -12,7 +12,7 @@ import signal
 import threading
 import traceback
 from itertools import islice
-from typing import Any, Dict, List, NamedTuple, Tuple
+from typing import Any, Dict, List, NamedTuple, Optional, Tuple
 
 from . import parcels
 from .following import Following, following_of
@@ -66,7 +66,7 @@ class Outbox:
     def take_terms(self, terms: Terms) -> None:
         """Nothing: they were taken there."""
 
-    def commit(self, collect: bool, batch: int) -> Commit:
+    def commit(self, collect: bool, batch: int, feed: Optional[str] = None) -> Commit:
         """Has what is pending go out with the step that it is of."""
         self._batch, self.rows = Operations(self.rows), []
         return NOTHING

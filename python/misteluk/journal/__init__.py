@@ -11,5 +11,5 @@ Choices:
   leaves a batch that nobody was told of, and the next opening has it.
 - The file has what was accepted and in which order, and nothing of blocks: a replay has as many as it needs, whatever is said.
 - What an endless store drops is a mark of the batch before which it did so: a replay drops at the same place.
-- What producers sent last isn't a table of its own: batches and bases have it, under their sums.
+- What producers and keys sent, and how far feeds are in, has no table of its own: batches and bases have it, under their sums.
 """

@@ -5,7 +5,7 @@
     kinds, sources, targets    each edge's, by number, as 4 bytes
     weights, firsts, recents   each edge's, as 8 bytes; weights have a sign
     texts                      JSON: the texts of ids
-    producers                  JSON: of each producer its last sequence, that batch's version and digest, and what it did
+    sources                    JSON: what each producer and each of the last keys sent, and how far followed feeds are in
 
 Numbers are little-endian.
 """
@@ -18,13 +18,13 @@ from array import array
 from itertools import accumulate
 from typing import Dict, Iterator, List, Mapping, NamedTuple, Sequence, Tuple
 
+from .sources import Sources
 from .tables import digest
 from ..engine.calling import MOST_AT_ONCE
 from ..engine.library import LibraryEngine
 from ..engine.operations import INSERT, REMOVE, Encoded, Numbered, Operations
 from ..engine.protocol import WHOLE, Arrays, Held
 from ..errors import JournalFault
-from ..values.answers import Commit
 from ..values.records import BLOCK_EDGES
 
 PART = 1 << 20
@@ -32,27 +32,19 @@ ENDS = "Q"
 OF_EDGES = dict(zip(("kinds", "sources", "targets", "weights", "firsts", "recents"), "IIIqQQ"))
 
 
-class Taken(NamedTuple):
-    """What a producer sent last: its number, the digest of its records, and what the batch did."""
-
-    sequence: int
-    digest: bytes
-    commit: Commit
-
-
 class Base(NamedTuple):
-    """A version: its kinds and vertices by number, its edges as columns, the texts of ids, and what producers sent last."""
+    """A version: its kinds and vertices by number, its edges as columns, the texts of ids, and who sent what."""
 
     kinds: List[str]
     names: List[str]
     edges: Arrays
     texts: Mapping[str, str]
-    producers: Mapping[str, Taken]
+    sources: Sources
 
     @staticmethod
-    def of(held: Held, texts: Mapping[str, str], producers: Mapping[str, Taken]) -> "Base":
+    def of(held: Held, texts: Mapping[str, str], sources: Sources) -> "Base":
         """A version that is held."""
-        return Base(held.kinds(), held.names(), held.edges(WHOLE), texts, producers)
+        return Base(held.kinds(), held.names(), held.edges(WHOLE), texts, sources)
 
     def columns(self) -> Iterator[Tuple[str, bytes]]:
         """The columns by name, as they are written."""
@@ -60,8 +52,7 @@ class Base(NamedTuple):
             yield f"{name}_text", "".join(names).encode("ascii")
             yield f"{name}_ends", _written(array(ENDS, accumulate(map(len, names))))
         yield from ((name, _written(it)) for name, it in zip(OF_EDGES, self.edges))
-        producers = {it: (sequence, told.hex(), commit) for it, (sequence, told, commit) in self.producers.items()}
-        yield from (("texts", json.dumps(dict(self.texts)).encode("ascii")), ("producers", json.dumps(producers).encode("ascii")))
+        yield from (("texts", json.dumps(dict(self.texts)).encode("ascii")), ("sources", self.sources.written()))
 
 
 def _written(column: "array[int]") -> bytes:
@@ -100,9 +91,7 @@ def read_base(opened: sqlite3.Connection, version: int) -> Tuple[Base, bytes]:
         raise JournalFault(f"the base of version {version} isn't as it was written")
     kinds, names = (_names(columns[f"{it}_text"], columns[f"{it}_ends"]) for it in ("kind", "vertex"))
     edges = Arrays(*(_numbers(code, columns[name]) for name, code in OF_EDGES.items()))
-    producers = {it: Taken(sequence, bytes.fromhex(found), Commit(*commit))
-                 for it, (sequence, found, commit) in json.loads(columns["producers"]).items()}
-    return Base(kinds, names, edges, json.loads(columns["texts"]), producers), before
+    return Base(kinds, names, edges, json.loads(columns["texts"]), Sources.read(columns["sources"])), before
 
 
 def _names(text: bytes, ends: bytes) -> List[str]:

@@ -87,7 +87,7 @@ def _is_same(state: State, base: Base) -> bool:
     """Whether a state is what a base has. The order of edges may be another one."""
     held = state.engine.hold_apart()
     try:
-        found = Base.of(held, state.texts, state.producers)
+        found = Base.of(held, state.texts, state.sources)
         edges = sorted(zip(*found.edges)) == sorted(zip(*base.edges))
         return edges and found._replace(edges=base.edges) == base
     finally:

@@ -8,7 +8,7 @@ has is in.
 from __future__ import annotations
 
 import threading
-from typing import Any, Callable, Optional, Tuple
+from typing import Any, Callable, Mapping, Optional, Tuple
 
 from .bases import Base
 from .compaction import Compacted, History, drop_old, write_base
@@ -16,13 +16,13 @@ from .journal import Entry, Journal
 from .passing import Passing
 from .recovery import State
 from .scripts import Writer
-from .tables import Settings, Written, digest
+from .tables import Settings, Written
 from ..engine.calling import LibraryFlight
 from ..engine.guard import Guard, alone
 from ..engine.held import LibraryVersion
-from ..engine.operations import Operations, Post
+from ..engine.operations import Operations
 from ..engine.protocol import Held
-from ..errors import ReadOnly, SequenceTaken, StoreError
+from ..errors import ReadOnly, StoreError
 from ..values.answers import Collected, Commit, Rebased, Renewed
 from ..feeds.terms import Terms
 
@@ -51,6 +51,10 @@ class Journaled(Passing):
         return self._journal.settings
 
     @property
+    def feeds(self) -> Mapping[str, str]:
+        return self.state.sources.feeds
+
+    @property
     def place(self) -> str:
         return self._journal.place
 
@@ -69,7 +73,7 @@ class Journaled(Passing):
         batch = flight.batch
         records = self._writer.records_of(batch)
         if batch.post is not None:
-            first = self._first_answer(batch.post, batch.size, records)
+            first = self.state.sources.first_answer(batch.post, batch.feeder, records if batch.size else None)
             if first is not None:
                 return first
         self._journal.must_be_well()
@@ -82,26 +86,14 @@ class Journaled(Passing):
             raise
         return self._finished(flight, row)
 
-    def _first_answer(self, post: Post, size: int, records: bytes) -> Optional[Commit]:
-        """What the batch of this number did before; `None` where it is a new one. One without an operation asks for that
-        alone."""
-        known = self.state.producers.get(post.producer)
-        if known is None or post.sequence > known.sequence:
-            return None
-        if post.sequence < known.sequence:
-            raise SequenceTaken(f"{post.producer} has sent {known.sequence} by now, and what {post.sequence} did isn't known any "
-                                "more", known.sequence)
-        if size and digest(records) != known.digest:
-            raise SequenceTaken(f"{post.producer} has sent another batch as {post.sequence}", known.sequence)
-        return known.commit
-
     def _written(self, flight: LibraryFlight, records: bytes) -> Written:
         """Writes a batch that is ready, with what comes with it."""
         batch = flight.batch
         terms = batch.terms or self._terms
         settings = self.settings.with_units(terms.units) if batch.size else self.settings
         seen = self._seen if terms.names is self._terms.names else 0
-        entry = Entry(records, batch.size, terms.names.since(seen), flight.drops, *(batch.post or (None, None)))
+        producer, sequence = batch.post or (None, None)
+        entry = Entry(records, batch.size, terms.names.since(seen), flight.drops, producer, sequence, batch.feeder, batch.feed)
         row = self._journal.append(entry, settings)
         self._seen += len(entry.texts) if terms.names is self._terms.names else 0
         return row
@@ -134,7 +126,7 @@ class Journaled(Passing):
 
     def last_sequence(self, producer: str) -> Optional[int]:
         """The last number of a producer's batches; `None` where it has sent none."""
-        known = self.state.producers.get(producer)
+        known = self.state.sources.producers.get(producer)
         return None if known is None else known.sequence
 
     # The whole.
@@ -181,10 +173,10 @@ class Journaled(Passing):
     def _frozen(self) -> "Tuple[LibraryVersion, Callable[[Held], Base], bytes]":
         """The last version, held, what makes a base of it, and the sum of its batch."""
         self._settle()
-        texts, producers = dict(self.state.texts), dict(self.state.producers)
+        texts, sources = dict(self.state.texts), self.state.sources.copy()
         held = self.inner.hold_apart()
         assert held.number == self.state.version
-        return held, lambda held: Base.of(held, texts, producers), self.state.sum
+        return held, lambda held: Base.of(held, texts, sources), self.state.sum
 
     def close(self) -> None:
         self.inner.close()

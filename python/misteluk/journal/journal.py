@@ -17,7 +17,7 @@ from ..values.texts import Path
 from ..errors import JournalError, JournalFault, Locked, NotWritten
 from ..files import keep_folder, place_of
 
-_INSERT = f"INSERT INTO batches({OF_BATCH}) VALUES (?, ?, ?, ?, ?, ?, ?, ?, ?)"
+_INSERT = f"INSERT INTO batches({OF_BATCH}) VALUES (?, ?, ?, ?, ?, ?, ?, ?, ?, ?, ?)"
 # (by its seal: where another writer came in between, the head is another one)
 _ADVANCE = "UPDATE head SET version=?, epoch=?, sum=?, seal=? WHERE seal=?"
 # A sync that failed, by SQLite's name; a Python before 3.11 has no names for one error of the disk and another.
@@ -27,7 +27,7 @@ _DISK_FAILED = "disk I/O error"
 
 class Entry(NamedTuple):
     """A batch that is to be written: its records and how many they are, the texts of ids that come with it, whether names and
-    kinds without an edge are dropped before it, and whose it is, by which number."""
+    kinds without an edge are dropped before it, whose it is, by which number or key, who fed it, and of which feed it is."""
 
     records: bytes
     operations: int
@@ -35,6 +35,8 @@ class Entry(NamedTuple):
     drops: bool = False
     producer: Optional[str] = None
     sequence: Optional[int] = None
+    feeder: Optional[str] = None
+    feed: Optional[str] = None
 
 
 class Journal:
@@ -133,7 +135,7 @@ class Journal:
             texts = {it: text for it, text in entry.texts.items() if it not in self.written}
             self._at = max(self._at, time.time_ns() // 1_000)
             row = Written(head.version + 1, self._at, entry.operations, entry.records, json.dumps(texts) if texts else None,
-                          int(entry.drops), entry.producer, entry.sequence).summed(head.sum)
+                          int(entry.drops), *entry[4:]).summed(head.sum)
             changed = settings.written() if settings != self.settings else []
             self._write(Head(row.version, head.epoch, row.sum), (_INSERT, row), *changed)
             self._writers.note(row.version)

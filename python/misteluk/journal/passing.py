@@ -1,7 +1,7 @@
 """An engine that passes each call on to a library's."""
 from __future__ import annotations
 
-from typing import Any, Optional
+from typing import Any, Mapping, Optional
 
 from ..engine.library import LibraryEngine
 from ..engine.operations import Operations
@@ -39,6 +39,10 @@ class Passing:
     @limits.setter
     def limits(self, limits: Limits) -> None:
         self.inner.limits = limits
+
+    @property
+    def feeds(self) -> Mapping[str, str]:
+        return self.inner.feeds
 
     @property
     def blocks(self) -> int:

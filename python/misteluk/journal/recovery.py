@@ -6,9 +6,10 @@ import sqlite3
 from dataclasses import dataclass, field
 from typing import Dict, Iterator, List, Optional
 
-from .bases import Base, Taken, fill, read_base
+from .bases import Base, fill, read_base
 from .scripts import operations_of
-from .tables import NO_SUM, OF_BATCH, Head, Written, digest, read_head
+from .sources import Sources
+from .tables import NO_SUM, OF_BATCH, Head, Written, read_head
 from ..engine.protocol import Denied
 from ..engine.waiting import WaitingEngine
 from ..errors import JournalFault
@@ -18,7 +19,7 @@ from ..values.answers import Commit
 @dataclass
 class State:
     """What a file holds as of a version: the engine that has its graph and its kinds, the sum of its last batch, the texts of
-    ids, and what producers sent last. And how that was found: by the base of which version (0 is none), and how many batches and
+    ids, and who sent what. And how that was found: by the base of which version (0 is none), and how many batches and
     operations."""
 
     engine: WaitingEngine
@@ -26,7 +27,7 @@ class State:
     whole: Optional[int] = None
     sum: bytes = NO_SUM
     texts: Dict[str, str] = field(default_factory=dict)
-    producers: Dict[str, Taken] = field(default_factory=dict)
+    sources: Sources = field(default_factory=Sources)
     kinds: List[str] = field(default_factory=list)
     base: int = 0
     batches: int = 0
@@ -37,7 +38,7 @@ class State:
         fill(self.engine, base)
         self.engine.count_from(version)
         self.version = self.whole = self.base = version
-        self.sum, self.texts, self.producers = found, dict(base.texts), dict(base.producers)
+        self.sum, self.texts, self.sources = found, dict(base.texts), base.sources.copy()
 
     def replay(self, row: Written) -> None:
         """Applies the next batch. Raises `JournalFault` where it isn't the next one, or not as it was written, or is refused."""
@@ -60,8 +61,7 @@ class State:
         self.version = self.whole = row.version
         self.sum = row.sum
         self.texts.update(texts_of(row))
-        if row.producer is not None and row.sequence is not None:
-            self.producers[row.producer] = Taken(row.sequence, digest(row.records), commit)
+        self.sources.take(row, commit)
 
 
 def recover(opened: sqlite3.Connection, engine: WaitingEngine, until: Optional[int] = None) -> State:

@@ -28,13 +28,13 @@ CREATE TABLE meta(name TEXT PRIMARY KEY, value NOT NULL) WITHOUT ROWID;
 CREATE TABLE head(id INTEGER PRIMARY KEY CHECK (id = 0), version INT NOT NULL, epoch INT NOT NULL, sum BLOB NOT NULL,
     seal BLOB NOT NULL);
 CREATE TABLE batches(version INTEGER PRIMARY KEY, at INT NOT NULL, operations INT NOT NULL, records BLOB NOT NULL, texts TEXT,
-    drops INT NOT NULL, producer TEXT, sequence INT, sum BLOB NOT NULL);
+    drops INT NOT NULL, producer TEXT, sequence INT, feeder TEXT, feed TEXT, sum BLOB NOT NULL);
 CREATE TABLE bases(version INTEGER PRIMARY KEY, at INT NOT NULL, vertices INT NOT NULL, kinds INT NOT NULL, edges INT NOT NULL,
     sum BLOB NOT NULL, digest BLOB NOT NULL);
 CREATE TABLE columns(id INTEGER PRIMARY KEY, version INT NOT NULL, name TEXT NOT NULL, part INT NOT NULL, data BLOB NOT NULL);
 CREATE UNIQUE INDEX columns_of ON columns(version, name, part);
 """
-OF_BATCH = "version, at, operations, records, texts, drops, producer, sequence, sum"
+OF_BATCH = "version, at, operations, records, texts, drops, producer, sequence, feeder, feed, sum"
 
 # What SQLite is to do, and with which values.
 Statement = Tuple[str, Tuple[Any, ...]]
@@ -43,7 +43,8 @@ Statement = Tuple[str, Tuple[Any, ...]]
 class Written(NamedTuple):
     """A row of `batches`: the version that the batch made and when it was written, in microseconds since 1970; how many
     operations it has, and their records; as JSON the texts of ids that came with it; whether names and kinds without an edge were
-    dropped before it; whose it was, by which number; and its sum."""
+    dropped before it; whose it was, by which number, or by a key alone; who fed it; of which followed feed it was, and to which
+    place (`feeds.steps.FeedMark`); and its sum."""
 
     version: int
     at: int
@@ -53,13 +54,15 @@ class Written(NamedTuple):
     drops: int
     producer: Optional[str]
     sequence: Optional[int]
+    feeder: Optional[str]
+    feed: Optional[str]
     sum: bytes = b""
 
     def summed(self, before: bytes) -> "Written":
         """The row with its sum, behind the batch of that sum. Raises `JournalFault` where the records are no bytes."""
         if not isinstance(self.records, bytes):
             raise JournalFault(f"the records of version {self.version} are no bytes")
-        marks = (self.version, self.at, self.operations, self.texts, self.drops, self.producer, self.sequence)
+        marks = [it for name, it in zip(self._fields, self) if name not in ("records", "sum")]
         return self._replace(sum=digest(before, json.dumps(marks).encode("ascii"), self.records))
 
 

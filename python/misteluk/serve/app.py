@@ -33,6 +33,7 @@ from .tables import AS_CSV, CSV, wants_csv
 from ..engine.protocol import Denied
 from ..page.page import style
 from ..errors import NotAllowed, StoreError
+from ..journal.engine import Journaled
 
 QUICK_THREADS = 4
 # A date in an address, behind which + and a colon stand as they are: a zone or a time of day.
@@ -43,6 +44,8 @@ TAKEN = "misteluk.taken"
 ROWS = {"text/csv": rows_of_csv, "application/json": rows_of_json}
 # The media type of Prometheus's text form.
 NUMBERS = "text/plain; version=0.0.4; charset=utf-8"
+# What says of a post that a repeat gets its answer, and how long that may be.
+KEY, LONGEST_KEY = "Idempotency-Key", 255
 BATCH = Parameter("number", "a batch's number", least=1)
 Handle = Callable[[Request], Any]
 
@@ -243,10 +246,20 @@ class Api:
         read = ROWS.get(request.headers.get("content-type", "").partition(";")[0].strip().lower())
         if read is None:
             raise ValueError("rows are text/csv or application/json, as their Content-Type says")
+        key = self._key_of(request)
         found, person = read(await self._body(request)), _person(request)
-        receipt = await self.feed.run(lambda: self.feeding.rows(found, name, person))
+        receipt = await self.feed.run(lambda: self.feeding.rows(found, name, person, key))
         log.note("posted", who=person.name, version=receipt.version)
         return as_json(receipt._asdict())
+
+    def _key_of(self, request: Request) -> Optional[str]:
+        """The key by which a post is applied once. Raises `ValueError` where nothing keeps it over a restart."""
+        key: Optional[str] = request.headers.get(KEY)
+        if key is not None and not isinstance(self.store.engine, Journaled):
+            raise ValueError(f"{KEY} is for a server whose store has a file: misteluk serve FILE")
+        if key is not None and not (key.isascii() and key.isprintable() and 0 < len(key) <= LONGEST_KEY):
+            raise ValueError(f"{KEY} has 1 to {LONGEST_KEY} signs of ASCII")
+        return key
 
     async def claim(self, request: Request) -> Response:
         person = _person(request)

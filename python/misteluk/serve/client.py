@@ -12,7 +12,7 @@ from .limits import MOST_VALUES
 from .talk import Talk, part
 from ..engine.guard import Guard, alone
 from ..engine.operations import Operations
-from ..engine.protocol import Arrays, Denied, Ends, Marks, Scope
+from ..engine.protocol import NO_FEEDS, Arrays, Denied, Ends, Marks, Scope
 from ..errors import Busy, NoAnswer, NoServer, NotAllowed, Refused, SessionClosed, StoreError
 from ..session import Session
 from ..store import Store
@@ -132,7 +132,7 @@ class ServedEngine:
 
     name = "served"
     operations_kept = None
-    limits, most_blocks = Limits(), MOST_BLOCKS
+    limits, most_blocks, feeds = Limits(), MOST_BLOCKS, NO_FEEDS
 
     def __init__(self, talk: Talk, keep_alive: bool = False) -> None:
         self.talk, self.is_closed, self.keep_alive = talk, False, keep_alive

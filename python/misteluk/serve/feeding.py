@@ -6,14 +6,16 @@ import threading
 import time
 from collections import deque
 from contextlib import contextmanager
+from itertools import chain
 from typing import Any, Callable, Deque, Dict, Iterable, Iterator, List, Mapping, Optional, Sequence, Tuple
 
 from . import log
 from .board import Board
-from .limits import ServerLimits
+from .limits import ServerLimits, TooLarge
 from .log import without_paths
 from .people import EVERYONE, Person
-from ..engine.operations import COMMANDS as OF_RECORDS, Operations, Row, row_of
+from ..engine.calling import MOST_AT_ONCE
+from ..engine.operations import COMMANDS as OF_RECORDS, Operations, Post, Row, row_of
 from ..engine.protocol import Denied
 from ..errors import Busy, SessionClosed, StoreError, refusal
 from ..feeds.apart import Apart
@@ -82,26 +84,37 @@ class Feeding:
 
     # A feed that is followed.
 
-    def follow(self, following: Following) -> None:
-        """Has a feed go in by a thread and a process of their own, until it ends or `close` ends it."""
+    def follow(self, following: Following, behind: Callable[[], Optional[Following]] = lambda: None) -> None:
+        """Has a feed go in by a thread and a process of their own, until it ends or `close` ends it; and then the one that comes
+        behind it, where there is one."""
         apart = Apart(following)
         self._following, self.state, self._is_read = apart, "followed", False
-        self._thread = threading.Thread(target=self._run, args=(apart,), name="feed")
+        self._thread = threading.Thread(target=self._run, args=(apart, behind), name="feed")
         self._thread.start()
 
-    def _run(self, following: Apart) -> None:
-        before = 0
+    def _run(self, following: Apart, behind: Callable[[], Optional[Following]]) -> None:
         try:
-            for step in following:
-                self.rate.add(step.rows - before)
-                self.expired += step.commit.expired
-                before = step.rows
-                self.board.advance()
+            more: Optional[Following] = None
+            while True:
+                self._steps(following)
+                more = None if self._is_over else behind()
+                if more is None:
+                    break
+                following.close()
+                following = self._following = Apart(more)
             self.state = "ended"
         except BaseException as fault:  # (whatever it is: who asks would else take the feed for one that goes on)
             self._failed(following, fault)
         finally:
             following.close()
+
+    def _steps(self, following: Apart) -> None:
+        before = following.place.rows
+        for step in following:
+            self.rate.add(step.rows - before)
+            self.expired += step.commit.expired
+            before = step.rows
+            self.board.advance()
 
     def _failed(self, following: Apart, fault: BaseException) -> None:
         self.fault, self.reason = getattr(fault, "word", "") or type(fault).__name__, without_paths(str(fault), following.name)
@@ -160,7 +173,7 @@ class Feeding:
                 self._must_go_on()
                 operations = checked_operations(text)
                 self._take_texts(texts)
-                feeder.receipt, feeder.number = self._apply(operations, collect), number
+                feeder.receipt, feeder.number = self._apply(operations, collect, person), number
                 self.board.advance()
             if feeder.receipt is None:
                 raise SessionClosed(f"batch {number} was given up")
@@ -188,18 +201,21 @@ class Feeding:
         for text in texts.values():
             names.to_program(text)
 
-    def _apply(self, operations: Operations, collect: bool) -> Commit:
+    def _apply(self, operations: Operations, collect: bool, person: Person) -> Commit:
         engine = self.store.engine
+        operations.feeder = None if person == EVERYONE else person.name
         receipt = engine.fly(engine.flight(operations, collect))
-        self.rate.add(operations.size)
-        self.expired += receipt.expired
+        if receipt.version > self.board.stat.version:  # (else it was applied before, by its key)
+            self.rate.add(operations.size)
+            self.expired += receipt.expired
         return receipt
 
     # Rows in the user's terms.
 
-    def rows(self, rows: Iterable[Sequence[str]], name: Optional[str] = None, person: Person = EVERYONE) -> Commit:
-        """Applies rows, each an operation's word and fields, in batches; all of them are checked before. Raises `Busy` where
-        another feeds the store."""
+    def rows(self, rows: Iterable[Sequence[str]], name: Optional[str] = None, person: Person = EVERYONE,
+             key: Optional[str] = None) -> Commit:
+        """Applies rows, each an operation's word and fields, in batches; all of them are checked before. With a key they are one
+        batch, and a repeat gets the first one's answer. Raises `Busy` where another feeds the store."""
         with self._lock:
             if name is None:
                 self.let_go(self.claim(person).name)
@@ -209,16 +225,25 @@ class Feeding:
             if not found:
                 raise ValueError("there are no rows")
             try:
-                return self._in_batches(found)
+                return self._in_batches(found, person) if key is None else self._once(found, person, key)
             finally:
                 self.board.advance()
 
-    def _in_batches(self, found: Deque[List[Row]]) -> Commit:
+    def _once(self, found: Deque[List[Row]], person: Person, key: str) -> Commit:
+        """Applies rows as one batch, once for each key of a person."""
+        if sum(map(len, found)) > MOST_AT_ONCE:
+            raise TooLarge(f"a post with an Idempotency-Key has at most {MOST_AT_ONCE:,} rows: send several")
+        try:
+            return self._apply(Operations(list(chain.from_iterable(found)), post=Post(key, None)), True, person)
+        except Denied as fault:
+            raise refusal(fault.word, "nothing of this post is in", advice=fault.advice) from None
+
+    def _in_batches(self, found: Deque[List[Row]], person: Person) -> Commit:
         done: List[Commit] = []
         with one_by_one(found):
             while found:
                 try:
-                    done.append(self._apply(Operations(found.popleft()), True))
+                    done.append(self._apply(Operations(found.popleft()), True, person))
                 except Denied as fault:
                     first = len(done) * records.MOST_OPERATIONS + 1
                     raise refusal(fault.word, f"the rows before row {first} are in, and none behind it") from None

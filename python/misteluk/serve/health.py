@@ -21,7 +21,9 @@ class Health:
     def faults(self) -> List[str]:
         """Why it isn't ready to be asked; nothing where it is."""
         feeding, keeper = self._feeding, self._keeper
-        return [*(["the feed failed"] if feeding.state == "failed" else []),
+        return [*(["the store's file takes nothing more until the server is started again"] if feeding.store.engine.has_ended
+                  else []),
+                *(["the feed failed"] if feeding.state == "failed" else []),
                 *(["the feed's file is still read for the first time"] if feeding.is_reading else []),
                 *(["a save is late, or failed"] if keeper is not None and keeper.is_late else [])]
 

@@ -88,6 +88,7 @@ def _question(it: ServedQuestion) -> Dict[str, Any]:
 # What calls are asked with in their addresses, and their bodies.
 ASKED = {"POST /v1/sessions": HELD[1], "POST /v1/rows": Parameter("feeder", "the seat of the one that feeds, where it was taken"),
          "GET /v1/stat": AFTER}
+KEYED = ("POST /v1/rows",)
 _OBJECT = {"application/json": {"schema": {"type": "object"}}}
 BODIES = {"POST /v1/rows": OF_ROWS, "POST /v1/sessions/{session}/ask": _OBJECT,
           "POST /v1/feeder/{feeder}/batches/{number}": _OBJECT,
@@ -108,6 +109,9 @@ def _call(path: str, method: str, call: Call) -> Dict[str, Any]:
         told["requestBody"] = {"required": True, "content": BODIES[name]}
     if name in ASKED:
         told["parameters"].append(_parameter(ASKED[name]))
+    if name in KEYED:
+        told["parameters"].append(_parameter(Parameter("Idempotency-Key", "a repeat with the same key gets the first answer, "
+                                                       "also after a restart; for a server whose store has a file"), "header"))
     return told
 
 
