@@ -1,7 +1,8 @@
 """The options of a store, as an editor completes them and mypy checks them."""
 from __future__ import annotations
 
-from typing import Literal, Optional, TypedDict
+from datetime import timedelta
+from typing import Literal, Optional, TypedDict, Union
 
 from .values.limits import Limits
 
@@ -18,6 +19,7 @@ class Beside(TypedDict, total=False):
     seats: int
     endless: bool
     sync: str
+    history: Union[int, timedelta, None]
 
 
 class OfStore(Beside, total=False):

@@ -18,6 +18,7 @@ from .engine.protocol import Denied, Engine
 from .errors import NoSeat, PoolEmpty, Refused, StoreError, Uncommitted
 from .feeds.opening import reads
 from .journal.engine import AsOf, Journaled
+from .journal.compaction import History
 from .journal.file import StoreFile
 from .journal.opening import When, open_at, open_journal, take_over, units_of
 from .ledger import Ledger
@@ -50,9 +51,9 @@ class Store(Uncopied, Generic[W, T]):
 
     `insert`, `add` and `remove` are collected here and checked at once; `commit` applies them. Where a commit is refused, what
     it would have applied is pending still. The graph lives as long as the store, but for versions that sessions save as files,
-    or in the store's own file: `Store("graph.db")` makes it or goes on with it, and every batch is in it before anybody sees it
-    (docs/DURABLE.md). Its units and limits hold without being said again. `sync="full"` has each batch on the disk before
-    `commit` returns; with "normal" or "off" a loss of power may cost the last ones.
+    or in its own file: `Store("graph.db")` makes it or goes on with it, and every batch is in it before anybody sees it
+    (docs/DURABLE.md); so are units and limits. `sync="full"` has each batch on the disk before `commit` returns; with "normal" or
+    "off" a loss of power may cost the last ones. `history`: how many versions are kept, or of how long ago (`timedelta`).
 
     The store is a library's, in this process: `LibraryNotFound` where it can't be loaded.
 
@@ -112,14 +113,14 @@ class Store(Uncopied, Generic[W, T]):
     def __init__(self, path: Optional[Path] = None, *, weight_scale: Optional[int] = None, times: Optional[str] = None,
                  decimals: str = "decimal", rounding: Optional[str] = None, blocks: Optional[int] = None,
                  limits: Optional[Limits] = None, seats: int = records.USUAL_SEATS, endless: bool = False,
-                 sync: str = "full") -> None:
+                 sync: str = "full", history: History = None) -> None:
         units = Units(1 if weight_scale is None else weight_scale, times or "number", decimals, rounding).checked()
         if path is None:
             are_set = weight_scale is not None or times is not None
             self._begin(LibraryEngine(blocks, seats, endless, limits or Limits()), units, are_set)
         else:
             self._begin_with(open_journal(path, sync=sync, blocks=blocks, seats=seats, endless=endless, limits=limits,
-                                          weight_scale=weight_scale, times=times), decimals, rounding)
+                                          weight_scale=weight_scale, times=times, history=history), decimals, rounding)
 
     def _begin_with(self, engine: "Journaled | AsOf", decimals: str, rounding: Optional[str]) -> None:
         """Begins with what a file has."""

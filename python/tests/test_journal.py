@@ -13,8 +13,8 @@ from unittest import mock
 from journaled import JournalCase, Model, batch, put, ran, told
 from support import HERE
 
-from misteluk import Columns, JournalFault, Limits, Locked, NamesFull, ReadOnly, SequenceTaken, Store, StoreError
-from misteluk.journal import tables
+from misteluk import Columns, JournalFault, Limits, Locked, NamesFull, NotWritten, ReadOnly, SequenceTaken, Store, StoreError
+from misteluk.journal import beside, compaction, engine, tables
 from misteluk.journal.checking import check
 from misteluk.journal.compaction import write_base
 from misteluk.journal.journal import Journal
@@ -289,6 +289,67 @@ class Tables(JournalCase):
         store.close()
         with Store(self.path) as store:
             self.assertEqual((store.file.recovered.base, told(store)), (30, Model().upto(30).told()))
+
+    def compacted(self, **options):
+        """A store that was fed with 60 batches, and was compacted by itself as soon as that was due."""
+        with mock.patch.object(beside, "LEAST_OPERATIONS", 400), mock.patch.object(beside, "LEAST_SECONDS", 0.0):
+            store = self.opened(**options)
+            for number in range(store.stat().version + 1, 61):
+                put(store, batch(number), producer="feed", sequence=number)
+                store.engine.beside.join()
+        return store
+
+    def test_compaction_by_itself(self):
+        """A base for at least so many operations as there are edges; what is older than the history is gone."""
+        store = self.compacted(history=25)
+        bases = [it for it, in self.rows("SELECT version FROM bases ORDER BY 1")]
+        kept = store.file.kept
+        self.assertEqual((len(bases), kept.newest, kept.fault, kept.compacted.version), (2, 60, None, bases[-1]))
+        self.assertEqual((kept.oldest, bases[0] <= 35), (bases[0], True))
+        self.assertGreater(bases[1] - bases[0], Model().upto(bases[0]).told()[0] and len(Model().upto(bases[0]).edges) // 41 - 2)
+        self.assertEqual(kept.bytes, sum((self.room / it).stat().st_size for it in ("graph.db", "graph.db-wal")))
+        store.close()
+        self.assertEqual(check(self.path)[::4], (bases[0], []))
+        with Store(self.path) as store:
+            self.assertEqual((store.file.recovered.base, told(store)), (bases[1], Model().upto(60).told()))
+        with Store.at(self.path, version=35) as then:
+            self.assertEqual(told(then), Model().upto(35).told())
+
+    def test_a_history_of_some_time(self):
+        store = self.compacted(history=datetime.timedelta(0))
+        self.assertEqual(len(self.rows("SELECT version FROM bases")), 2)
+        self.assertGreaterEqual(store.file.kept.oldest, 58)
+        self.assertEqual(told(store), Model().upto(60).told())
+
+    def test_all_is_kept(self):
+        store = self.compacted()
+        self.assertEqual((store.file.kept.oldest, self.rows("SELECT count(*) FROM batches")), (0, [(60,)]))
+        self.assertLessEqual(len(self.rows("SELECT version FROM bases")), 2)
+
+    def test_a_compaction_that_fails_or_is_broken_off(self):
+        """It is told, and tried again when the next one is due; commits go on. One that a closing store breaks off leaves
+        nothing."""
+        with mock.patch.object(engine, "write_base", side_effect=NotWritten("the disk is full")), \
+                self.assertLogs("misteluk.journal", "WARNING"):
+            store = self.compacted()
+        self.assertEqual((str(store.file.kept.fault), store.stat().version), ("the disk is full", 60))
+        store.close()
+        real = compaction._step
+
+        def step(journal, *statements):
+            journal.is_closed = journal.is_closed or "INSERT" in statements[0][0]
+            real(journal, *statements)
+        with Store(self.path) as store, mock.patch.object(compaction, "_step", step):
+            store.engine.beside.grew(beside.LEAST_OPERATIONS)
+            store.engine.beside.join()
+        with Store(self.path) as store:
+            self.assertEqual((self.rows("SELECT * FROM bases"), self.rows("SELECT id FROM columns")), ([], []))
+            self.assertEqual(told(store), Model().upto(60).told())
+
+    def test_what_is_no_history(self):
+        for said in (-1, 1.5, "often", datetime.timedelta(-1)):
+            with self.assertRaisesRegex(ValueError, "a history is"):
+                Store(self.path, history=said)
 
     def test_a_commit_amid_a_step_of_a_compaction(self):
         """The step writes no head back that isn't the last one any more."""

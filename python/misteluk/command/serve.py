@@ -9,6 +9,7 @@ import signal
 import sys
 from typing import Any, Dict, Iterator, Optional, Tuple
 
+from .file import history
 from ..feeds.feed import STANDARD_INPUT
 from ..feeds.following import Following
 from ..feeds.steps import FeedMark
@@ -50,6 +51,8 @@ def add_options(parser: argparse.ArgumentParser) -> None:
                         "error, as text or JSON; else faults alone are logged")
     listen.add_argument("--sync", choices=SYNCS, help="of a store's file: have each batch on the disk before it is answered "
                         "(full); normal: a loss of power may cost the last ones; off: it may damage the file")
+    listen.add_argument("--history", type=history, metavar="N|TIME", help="of a store's file: keep the last N versions at least, "
+                        "or those of so long ago, as 30d; else all are kept")
     listen.add_argument("--save", metavar="FILE", help="begin with the version that this file has, if it is there, and save the "
                         "last one in it at intervals and at the end. (A file that is followed is read again, and needs none.)")
     listen.add_argument("--save-every", type=float, default=USUAL_EVERY, metavar="SECONDS", help="how often it is saved, where "
@@ -78,8 +81,8 @@ def take_files(words: argparse.Namespace) -> None:
         raise ValueError("a feed wants --set or --add")
     if words.path is not None and words.save is not None:
         raise ValueError("a store's file has each batch: --save is for a store that is in memory alone")
-    if words.path is None and words.sync is not None:
-        raise ValueError("--sync is for a store's file, which is named first")
+    if words.path is None and (words.sync is not None or words.history is not None):
+        raise ValueError("--sync and --history are for a store's file, which is named first")
 
 
 def serve(words: argparse.Namespace, how: Dict[str, Any]) -> int:
@@ -140,7 +143,7 @@ def store_of(words: argparse.Namespace, keeper: Optional[Keeper]) -> Tuple[Store
     options = {"blocks": words.blocks, "seats": records.MOST_SEATS, "endless": True,
                "weight_scale": words.weight_scale, "times": "iso" if words.dates else words.times, "rounding": words.rounding}
     if words.path is not None:
-        opened = Store(words.path, sync=words.sync or "full", **options)
+        opened = Store(words.path, sync=words.sync or "full", history=words.history, **options)
         version, base, batches, _ = opened.file.recovered
         log.state("recovered", f"{words.path} has version {version}: {batches} batches behind the base of version {base}",
                   version=version, base=base, batches=batches)

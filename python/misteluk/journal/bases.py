@@ -5,7 +5,7 @@
     kinds, sources, targets    each edge's, by number, as 4 bytes
     weights, firsts, recents   each edge's, as 8 bytes; weights have a sign
     texts                      JSON: the texts of ids
-    sources                    JSON: what each producer and each of the last keys sent, and how far followed feeds are in
+    senders                    JSON: what each producer and each of the last keys sent, and how far followed feeds are in
 
 Numbers are little-endian.
 """
@@ -52,7 +52,7 @@ class Base(NamedTuple):
             yield f"{name}_text", "".join(names).encode("ascii")
             yield f"{name}_ends", _written(array(ENDS, accumulate(map(len, names))))
         yield from ((name, _written(it)) for name, it in zip(OF_EDGES, self.edges))
-        yield from (("texts", json.dumps(dict(self.texts)).encode("ascii")), ("sources", self.sources.written()))
+        yield from (("texts", json.dumps(dict(self.texts)).encode("ascii")), ("senders", self.sources.written()))
 
 
 def _written(column: "array[int]") -> bytes:
@@ -91,7 +91,7 @@ def read_base(opened: sqlite3.Connection, version: int) -> Tuple[Base, bytes]:
         raise JournalFault(f"the base of version {version} isn't as it was written")
     kinds, names = (_names(columns[f"{it}_text"], columns[f"{it}_ends"]) for it in ("kind", "vertex"))
     edges = Arrays(*(_numbers(code, columns[name]) for name, code in OF_EDGES.items()))
-    return Base(kinds, names, edges, json.loads(columns["texts"]), Sources.read(columns["sources"])), before
+    return Base(kinds, names, edges, json.loads(columns["texts"]), Sources.read(columns["senders"])), before
 
 
 def _names(text: bytes, ends: bytes) -> List[str]:

@@ -8,11 +8,20 @@ from typing import Iterator, List, NamedTuple, Optional, Tuple, Union
 from .bases import PART, Base, digest_of
 from .journal import Journal
 from .tables import Statement
+from ..errors import StoreError
 
 # How long versions are kept: so many of the last ones, or those of so long ago; `None` is all.
 History = Union[int, timedelta, None]
 # How many bases there are always, and how many batches one step takes out.
 GENERATIONS, AT_ONCE = 2, 100
+
+
+# For how long it rests between two steps, in seconds, so that those who commit have their turn.
+REST = 0.001
+
+
+class Ended(StoreError):
+    """The store was closed meanwhile: what was written of a base is let go by the next opening."""
 
 
 class Compacted(NamedTuple):
@@ -25,6 +34,13 @@ class Compacted(NamedTuple):
     dropped: int
 
 
+def checked(history: History) -> History:
+    """Itself. Raises `ValueError` where it is less than nothing, or neither a number of versions nor a length of time."""
+    if history is None or isinstance(history, timedelta) and history >= timedelta(0) or type(history) is int and history >= 0:
+        return history
+    raise ValueError(f"a history is a number of versions or a timedelta, and not {history!r}")
+
+
 def write_base(journal: Journal, version: int, found: bytes, base: Base) -> int:
     """Writes a version as a base, whose batch has this sum, and gives how many bytes it has. It goes in step by step, so that
     batches are written meanwhile; it counts once all of it is there."""
@@ -33,8 +49,8 @@ def write_base(journal: Journal, version: int, found: bytes, base: Base) -> int:
     journal.run(("DELETE FROM columns WHERE version=?", (version,)), ("DELETE FROM bases WHERE version=?", (version,)))
     for name, data in columns.items():
         for part, begin in enumerate(range(0, len(data) or 1, PART)):  # (an empty column has one part too)
-            journal.run(("INSERT INTO columns(version, name, part, data) VALUES (?, ?, ?, ?)",
-                         (version, name, part, data[begin:begin + PART])))
+            _step(journal, ("INSERT INTO columns(version, name, part, data) VALUES (?, ?, ?, ?)",
+                            (version, name, part, data[begin:begin + PART])))
     journal.run(("INSERT INTO bases VALUES (?, ?, ?, ?, ?, ?, ?)",
                  (version, at, *counts, found, digest_of(version, at, counts, found, columns))))
     return sum(map(len, columns.values()))
@@ -48,30 +64,31 @@ def drop_old(journal: Journal, history: History) -> Tuple[int, int]:
     kept = {*bases[-GENERATIONS:], oldest}
     for it in bases:
         if it not in kept:
-            journal.run(("DELETE FROM bases WHERE version=?", (it,)))
+            _step(journal, ("DELETE FROM bases WHERE version=?", (it,)))
             _drop_columns(journal, it)
     dropped = 0
     for first, last in _steps(journal, oldest):
-        journal.run(("DELETE FROM batches WHERE version BETWEEN ? AND ?", (first, last)))
+        _step(journal, ("DELETE FROM batches WHERE version BETWEEN ? AND ?", (first, last)))
         dropped += last - first + 1
-    journal.shrink()
+    while not journal.is_closed and journal.shrink():
+        time.sleep(REST)
     return oldest, dropped
 
 
 def _oldest(journal: Journal, bases: List[int], history: History) -> int:
     """The version from which on all is kept: 0, or that of a base which isn't newer than the history, nor than the last bases."""
     if history is None or len(bases) < GENERATIONS:
-        return _first(journal)
+        return first_kept(journal)
     if isinstance(history, int):
         until = journal.head.version - history
     else:
         before = time.time_ns() // 1_000 - history // timedelta(microseconds=1)
         words = "SELECT coalesce(max(version), 0) FROM batches WHERE at<=?"
         until = journal.rows(words, before)[0][0]
-    return max((it for it in bases[:-GENERATIONS + 1] if it <= until), default=_first(journal))
+    return max((it for it in bases[:-GENERATIONS + 1] if it <= until), default=first_kept(journal))
 
 
-def _first(journal: Journal) -> int:
+def first_kept(journal: Journal) -> int:
     """The oldest version that can be had now."""
     if journal.rows("SELECT 1 FROM batches WHERE version=1"):
         return 0
@@ -92,4 +109,12 @@ def _drop_columns(journal: Journal, version: int) -> None:
         if not parts:
             return
         statements: List[Statement] = [("DELETE FROM columns WHERE id=?", (it,)) for it in parts]
-        journal.run(*statements)
+        _step(journal, *statements)
+
+
+def _step(journal: Journal, *statements: Statement) -> None:
+    """A step, behind which others have their turn. Raises `Ended` where the file was closed."""
+    if journal.is_closed:
+        raise Ended("the store was closed while its file was compacted")
+    journal.run(*statements)
+    time.sleep(REST)

@@ -8,10 +8,12 @@ has is in.
 from __future__ import annotations
 
 import threading
+import time
 from typing import Any, Callable, Mapping, Optional, Tuple
 
 from .bases import Base
-from .compaction import Compacted, History, drop_old, write_base
+from .beside import Beside
+from .compaction import Compacted, History, drop_old, first_kept, write_base
 from .journal import Entry, Journal
 from .passing import Passing
 from .recovery import State
@@ -30,13 +32,16 @@ from ..feeds.terms import Terms
 class Journaled(Passing):
     """A library's engine, and the file that has its batches."""
 
-    def __init__(self, journal: Journal, state: State) -> None:
+    def __init__(self, journal: Journal, state: State, history: History = None) -> None:
         super().__init__(state.engine)
         self._inner, self._journal, self.state = state.engine, journal, state
         self._guard, self._writer = Guard(), Writer()
         # The batch that may be on its way.
         self._flying: Optional[LibraryFlight] = None
         self._compacting = threading.Lock()
+        since = journal.rows("SELECT coalesce((SELECT max(at) FROM bases), (SELECT min(at) FROM batches))")[0][0]
+        self.beside = Beside(self.compact, lambda: self._inner.stat().edges, history,
+                             time.time() if since is None else since / 1e6, state.operations)
         # How it began: the version, the base, and the batches and operations behind that.
         self.recovered = state.version, state.base, state.batches, state.operations
         # The store's terms, and how many of its texts the file has.
@@ -102,6 +107,7 @@ class Journaled(Passing):
         """Has the library accept a batch that the file has."""
         receipt = self._inner.finish(flight)
         self.state.take(row, receipt)
+        self.beside.grew(row.operations)
         return receipt
 
     def _settle(self) -> None:
@@ -178,9 +184,20 @@ class Journaled(Passing):
         assert held.number == self.state.version
         return held, lambda held: Base.of(held, texts, sources), self.state.sum
 
+    @property
+    def size(self) -> int:
+        """How many bytes the file has."""
+        return self._journal.size
+
+    @property
+    def oldest(self) -> int:
+        """The oldest version that can be had."""
+        return first_kept(self._journal)
+
     def close(self) -> None:
-        self.inner.close()
         self._journal.close()
+        self.beside.join()
+        self.inner.close()
 
 
 class AsOf(Passing):

@@ -3,7 +3,7 @@ from __future__ import annotations
 
 from typing import NamedTuple, Optional
 
-from .compaction import Compacted, History
+from .compaction import Compacted, History, checked
 from .engine import Journaled
 from ..engine.operations import Post
 from ..engine.protocol import Engine
@@ -18,6 +18,17 @@ class Recovered(NamedTuple):
     base: int
     batches: int
     operations: int
+
+
+class Kept(NamedTuple):
+    """What a file has: the oldest version that can be had and the last one, how many bytes it has, what the last compaction
+    beside the feed did, and why one couldn't be made, as where the disk is full: it is tried again later."""
+
+    oldest: int
+    newest: int
+    bytes: int
+    compacted: Optional[Compacted]
+    fault: Optional[StoreError]
 
 
 class StoreFile:
@@ -36,15 +47,21 @@ class StoreFile:
     def recovered(self) -> Recovered:
         return Recovered(*self._engine.recovered)
 
+    @property
+    def kept(self) -> Kept:
+        """What the file has now, and what its last compaction did."""
+        beside = self._engine.beside
+        return Kept(self._engine.oldest, self._engine.state.version, self._engine.size, beside.last, beside.fault)
+
     def compact(self, history: History = None) -> Compacted:
         """Writes the last version as a base, with which the next opening begins. Then what is older than the history leaves the
         file: so many last versions (an int), or those of so long ago (a `timedelta`), are kept for `Store.at`; without a history
         all are. Other threads commit and ask meanwhile. An interrupt, or `NotWritten` where the disk is full, leaves what was
-        there.
+        there. (A store does so by itself, with the history that it was opened with.)
 
             store.file.compact(history=timedelta(days=30))
         """
-        return self._engine.compact(history)
+        return self._engine.compact(checked(history))
 
     def last_sequence(self, producer: str) -> Optional[int]:
         """The number of a producer's last batch (see `Store.commit`), over restarts too; `None` where it has sent none."""

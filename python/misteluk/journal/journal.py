@@ -23,6 +23,8 @@ _ADVANCE = "UPDATE head SET version=?, epoch=?, sum=?, seal=? WHERE seal=?"
 # A sync that failed, by SQLite's name; a Python before 3.11 has no names for one error of the disk and another.
 _SYNCS_FAILED = "SQLITE_IOERR_FSYNC", "SQLITE_IOERR_DIR_FSYNC"
 _DISK_FAILED = "disk I/O error"
+# How many pages are given back to the disk by one step.
+AT_ONCE = 1_000
 
 
 class Entry(NamedTuple):
@@ -48,6 +50,7 @@ class Journal:
     """
 
     fault: Optional[JournalError] = None
+    is_closed = False
 
     def __init__(self, path: Path, sync: str, settings: Settings) -> None:
         if sync not in SYNCS:
@@ -150,10 +153,23 @@ class Journal:
                 self._write(self.settle(), *settings.written())
                 self.settings = settings
 
-    def shrink(self) -> None:
-        """Gives pages that nothing uses back to the disk. (Where that fails they are used for what comes.)"""
-        with self._alone, suppress(sqlite3.OperationalError):
-            self.opened.execute("PRAGMA incremental_vacuum").fetchall()
+    def shrink(self) -> bool:
+        """Gives some of the pages that nothing uses back to the disk, and tells whether there are more. (Where that fails they are
+        used for what comes.)"""
+        with self._alone, suppress(sqlite3.Error):
+            self.opened.execute(f"PRAGMA incremental_vacuum({AT_ONCE})").fetchall()
+            left: int = self.opened.execute("PRAGMA freelist_count").fetchone()[0]
+            return left > 0
+        return False
+
+    @property
+    def size(self) -> int:
+        """How many bytes the file has, with its -wal."""
+        found = 0
+        for it in (self.place, f"{self.place}-wal"):
+            with suppress(OSError):
+                found += os.stat(it).st_size
+        return found
 
     def run(self, *statements: Statement) -> None:
         """Runs statements that leave the head as it is, all at once."""
@@ -202,7 +218,8 @@ class Journal:
     def close(self) -> None:
         """Ends the writer, and gives the lock back. (SQLite puts what the -wal has into the database, and removes it, if it
         can.)"""
-        with suppress(sqlite3.Error):
+        self.is_closed = True
+        with self._alone, suppress(sqlite3.Error):
             self.opened.close()
         self._writers.close(not os.path.exists(f"{self.place}-wal"))
 

@@ -7,6 +7,7 @@ from contextlib import closing
 from datetime import date
 from typing import TYPE_CHECKING, List, Optional, Tuple, Union
 
+from .compaction import History, checked
 from .engine import AsOf, Journaled
 from .journal import Journal, must_be_whole
 from .lock import is_written
@@ -26,7 +27,7 @@ When = Union[int, str, date]
 
 
 def open_journal(path: Path, *, sync: str, blocks: Optional[int], seats: int, endless: bool, limits: Optional[Limits],
-                 weight_scale: Optional[int], times: Optional[str]) -> Journaled:
+                 weight_scale: Optional[int], times: Optional[str], history: History = None) -> Journaled:
     """Makes a store's file, or opens the one that is there and recovers what it holds. What isn't said is as it was at last.
 
     Raises `OSError` where there can be no such file, `Locked` where another process writes it, `JournalFault` where it isn't as
@@ -44,7 +45,7 @@ def open_journal(path: Path, *, sync: str, blocks: Optional[int], seats: int, en
         _must_be_within(settings.limits, vertices, len(state.kinds))
         journal.change(settings)
         journal.written.update(state.texts)
-        return Journaled(journal, state)
+        return Journaled(journal, state, checked(history))
     except BaseException:
         journal.close()
         if engine is not None:

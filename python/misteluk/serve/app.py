@@ -170,6 +170,7 @@ class Api:
             await self.bell.until(lambda: self.board.stat.version > after, min(LONGEST, self.limits.time))
         stat, units = self.board.stat, self.store.ledger.terms.units
         told = {"server": self._run.name, "began": self._run.began, "saved": self._keeper and self._keeper.told(),
+                "file": await self.quick.run(self.health.of_file),
                 "version": stat.version, "vertices": stat.names, "edges": stat.edges,
                 "operations_kept": self.store.operations_kept,
                 "blocks": {"all": self.store.blocks, "grow": self.store.engine.grows, "free": stat.free, "retired": stat.retired,

@@ -2,13 +2,14 @@
 from __future__ import annotations
 
 import resource
-from typing import Iterator, List, Optional
+from typing import Any, Dict, Iterator, List, Optional
 
 from .board import Board
 from .door import Door
 from .feeding import Feeding
 from .keeping import Keeper
 from .metrics import Counts, Number, gauge, of_numbers
+from ..journal.engine import Journaled
 from ..version import VERSION
 
 
@@ -27,6 +28,16 @@ class Health:
                 *(["the feed's file is still read for the first time"] if feeding.is_reading else []),
                 *(["a save is late, or failed"] if keeper is not None and keeper.is_late else [])]
 
+    def of_file(self) -> Optional[Dict[str, Any]]:
+        """What the store's file has: the oldest version and how many bytes, of which version the last base is that was made
+        beside the feed, and why one couldn't be made; nothing where there is no file."""
+        store = self._feeding.store
+        if not isinstance(store.engine, Journaled):
+            return None
+        kept = store.file.kept
+        return {"oldest": kept.oldest, "bytes": kept.bytes, **({} if kept.compacted is None else {"base": kept.compacted.version}),
+                **({} if kept.fault is None else {"fault": type(kept.fault).__name__})}
+
     def text(self) -> str:
         """Its numbers, in the text form of Prometheus."""
         return "".join([*of_numbers([*self._of_store(), *self._of_feed(), *self._of_save(), *self._of_process()]),
@@ -37,6 +48,10 @@ class Health:
         yield gauge("version", "The number of the last version.", stat.version)
         yield gauge("vertices", "Names of the last version.", stat.names)
         yield gauge("edges", "Edges of the last version.", stat.edges)
+        file = self.of_file()
+        if file is not None:
+            yield gauge("file_bytes", "Bytes of the store's file.", file["bytes"])
+            yield gauge("file_oldest_version", "The oldest version that it has.", file["oldest"])
         yield gauge("versions_held", "Versions that clients hold.", sum(it.clients > 0 for it in held))
         yield gauge("sessions", "Sessions of clients.", sum(it.clients for it in held))
         yield "blocks", "Blocks of the store, by what they are.", "gauge", [

@@ -46,9 +46,10 @@ FEED = of({"state": TEXT, "rows": WHOLE, "rows_a_second": NUMBER, "bad": WHOLE, 
           last_bad=of({"line": WHOLE, "reason": TEXT}), half_line=TRUTH, readers_killed=WHOLE, replaced=TRUTH, error=TEXT,
           reason=TEXT)
 SAVED = of({"version": or_null(WHOLE), "seconds": or_null(NUMBER)}, state=TEXT, error=TEXT, reason=TEXT)
+FILE = of({"oldest": WHOLE, "bytes": WHOLE}, base=WHOLE, fault=TEXT)
 _OF_FIELD = {"is_last": TRUTH, "session": TEXT, "owner": TEXT, "silent": NUMBER}
 STAT = of({
-    "server": TEXT, "began": TEXT, "saved": or_null(SAVED), "version": WHOLE, "vertices": WHOLE, "edges": WHOLE,
+    "server": TEXT, "began": TEXT, "saved": or_null(SAVED), "file": or_null(FILE), "version": WHOLE, "vertices": WHOLE, "edges": WHOLE,
     "operations_kept": or_null(WHOLE), "seats": WHOLE, "feed": FEED,
     "blocks": of({"all": WHOLE, "grow": TRUTH, "free": WHOLE, "retired": WHOLE, "used": WHOLE}),
     "held": rows_of(of({it: _OF_FIELD.get(it, WHOLE) for it in HeldVersion._fields})),
