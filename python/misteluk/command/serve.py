@@ -22,6 +22,7 @@ from ..serve.limits import ServerLimits
 from ..serve.log import FORMS
 from ..serve.notify import Manager
 from ..serve.people import ROLES, People, people_of
+from ..serve.replica import Replica
 from ..serve.server import USUAL, Server
 from ..store import Store
 from ..values import records
@@ -53,6 +54,8 @@ def add_options(parser: argparse.ArgumentParser) -> None:
                         "(full); normal: a loss of power may cost the last ones; off: it may damage the file")
     listen.add_argument("--history", type=history, metavar="N|TIME", help="of a store's file: keep the last N versions at least, "
                         "or those of so long ago, as 30d; else all are kept")
+    listen.add_argument("--replica-of", metavar="FILE|URL", help="serve what a store's file has that another process writes, or "
+                        "what another server has, as it comes; for reading alone")
     listen.add_argument("--save", metavar="FILE", help="begin with the version that this file has, if it is there, and save the "
                         "last one in it at intervals and at the end. (A file that is followed is read again, and needs none.)")
     listen.add_argument("--save-every", type=float, default=USUAL_EVERY, metavar="SECONDS", help="how often it is saved, where "
@@ -77,6 +80,8 @@ def take_files(words: argparse.Namespace) -> None:
     """Finds which file is the store's, and which the feed. Raises `ValueError` where they can't be."""
     if words.by is not None and words.file is None:
         words.path, words.file = None, words.path
+    if words.replica_of is not None and (words.path, words.file, words.save, words.sync, words.history) != (None,) * 5:
+        raise ValueError("--replica-of FILE is all that a replica is made of")
     if words.file is not None and words.by is None:
         raise ValueError("a feed wants --set or --add")
     if words.path is not None and words.save is not None:
@@ -101,12 +106,14 @@ def run(words: argparse.Namespace, how: Dict[str, Any], limits: ServerLimits, pe
         for it, done in SIGNALS.items():
             ends.callback(signal.signal, it, signal.signal(it, done))
         keeper = None if words.save is None else ends.enter_context(contextlib.closing(Keeper(words.save, words.save_every)))
-        store, began = store_of(words, keeper)
+        replica = None if words.replica_of is None else ends.enter_context(contextlib.closing(Replica(words.replica_of)))
+        store, began = store_of(words, keeper) if replica is None else (replica.store, f"as a replica of {words.replica_of}")
         ends.enter_context(store)
-        store.engine.fit(0, 0, ROOM)
+        if replica is None:
+            store.engine.fit(0, 0, ROOM)
         raise_descriptors()
         server = Server(store, words.listen, people=people, limits=limits, keeper=keeper, began=began,
-                        manager=Manager(os.environ))
+                        manager=Manager(os.environ), replica=replica)
         signal.signal(signal.SIGHUP, lambda *_: server.read_people())
         deadline = Deadline(lambda: ended(server, keeper))
         sys_turn = sys.getswitchinterval()
@@ -183,6 +190,7 @@ def feeds_of(store: Store[Any, Any], words: argparse.Namespace, how: Dict[str, A
 def tell(server: Server, words: argparse.Namespace) -> None:
     feed = {None: "the rows that a client posts", STANDARD_INPUT: "standard input"}.get(words.file, words.file)
     feed = feed if words.path is None else f"{words.path} and {feed}"
+    feed = feed if words.replica_of is None else f"what {words.replica_of} has"
     alone = "this user alone" if server.address.path else "this machine alone"
     whom = "those that have a token" if server.people.are_any else alone
     print(f"misteluk: {server.url} serves {feed}, for {whom}", flush=True)

@@ -16,7 +16,7 @@ import sqlite3
 import sys
 from array import array
 from itertools import accumulate
-from typing import Dict, Iterator, List, Mapping, NamedTuple, Sequence, Tuple
+from typing import Any, Dict, Iterator, List, Mapping, NamedTuple, Sequence, Tuple
 
 from .sources import Sources
 from .tables import digest
@@ -77,15 +77,29 @@ def digest_of(version: int, at: int, counts: Sequence[int], before: bytes, colum
 
 def read_base(opened: sqlite3.Connection, version: int) -> Tuple[Base, bytes]:
     """The base of a version, and the sum of its batch. Raises `JournalFault` where it isn't as it was written."""
+    row, columns = columns_of(opened, version)
+    return base_of(version, row, columns)
+
+
+def columns_of(opened: sqlite3.Connection, version: int) -> Tuple[Sequence[Any], Dict[str, bytes]]:
+    """A base as it is written: its row behind the version, and its columns."""
     row = opened.execute("SELECT at, vertices, kinds, edges, sum, digest FROM bases WHERE version=?", (version,)).fetchone()
     parts: Dict[str, List[bytes]] = {}
     for name, data in opened.execute("SELECT name, data FROM columns WHERE version=? ORDER BY name, part", (version,)):
         parts.setdefault(name, []).append(data)
     try:
-        columns = {name: b"".join(it) for name, it in parts.items()}
+        return row, {name: b"".join(it) for name, it in parts.items()}
+    except TypeError:  # (a damaged page may have anything in its place)
+        return row, {}
+
+
+def base_of(version: int, row: Sequence[Any], columns: Mapping[str, bytes]) -> Tuple[Base, bytes]:
+    """The base of a version by its row and columns, and the sum of its batch. Raises `JournalFault` where it isn't as it was
+    written."""
+    try:
         at, *counts, before, told = row
         is_whole = digest_of(version, at, counts, before, columns) == told
-    except (TypeError, UnicodeError):  # (a damaged page may have anything in its place)
+    except (TypeError, UnicodeError):  # (as above)
         is_whole = False
     if not is_whole:
         raise JournalFault(f"the base of version {version} isn't as it was written")

@@ -9,9 +9,9 @@ from __future__ import annotations
 
 import threading
 import time
-from typing import Any, Callable, Mapping, Optional, Tuple
+from typing import Any, Callable, Dict, List, Mapping, Optional, Sequence, Tuple
 
-from .bases import Base
+from .bases import Base, columns_of
 from .beside import Beside
 from .compaction import Compacted, History, drop_old, first_kept, write_base
 from .journal import Entry, Journal
@@ -184,6 +184,24 @@ class Journaled(Passing):
         assert held.number == self.state.version
         return held, lambda held: Base.of(held, texts, sources), self.state.sum
 
+    # What a replica is told.
+
+    @property
+    def sync(self) -> str:
+        return self._journal.sync
+
+    def some_rows(self, after: int, last: int) -> List[Written]:
+        """The batches behind a version, up to another one, or the first ones of them."""
+        return self._journal.some_rows(after, last)
+
+    def newest_base(self) -> "Optional[Tuple[Sequence[Any], Dict[str, bytes]]]":
+        """The newest base as it is written, with its version before its row; `None` where there is none."""
+        found = self._journal.rows("SELECT max(version) FROM bases")[0][0]
+        if found is None:
+            return None
+        row, columns = self._journal.read(lambda opened: columns_of(opened, found))
+        return (found, *row), columns
+
     @property
     def size(self) -> int:
         """How many bytes the file has."""
@@ -203,12 +221,14 @@ class Journaled(Passing):
 class AsOf(Passing):
     """An engine that has what a file held as of a version, and takes nothing more."""
 
+    told_why = ""
+
     def __init__(self, state: State, settings: Settings) -> None:
         super().__init__(state.engine)
         self.state, self.settings = state, settings
 
     def _refuse(self) -> ReadOnly:
-        return ReadOnly(f"the store is as of version {self.state.version}, and is only read")
+        return ReadOnly(self.told_why or f"the store is as of version {self.state.version}, and is only read")
 
     def flight(self, batch: Operations, collect: bool) -> Any:
         raise self._refuse()

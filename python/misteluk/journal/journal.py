@@ -7,16 +7,17 @@ import sqlite3
 import threading
 import time
 from contextlib import suppress
-from typing import Any, List, Mapping, NamedTuple, Optional, Set, Tuple
+from typing import Any, Callable, List, Mapping, NamedTuple, Optional, Set, Tuple, TypeVar
 
 from .lock import WritersLock
-from .recovery import rows_of
+from .recovery import rows_of, some
 from .tables import (OF_BATCH, SYNCS, Head, Settings, Statement, Written, connect, faults_told, make, read_head, read_settings)
 from .wal import commits_lost
 from ..values.texts import Path
 from ..errors import JournalError, JournalFault, Locked, NotWritten
 from ..files import keep_folder, place_of
 
+T = TypeVar("T")
 _INSERT = f"INSERT INTO batches({OF_BATCH}) VALUES (?, ?, ?, ?, ?, ?, ?, ?, ?, ?, ?)"
 # (by its seal: where another writer came in between, the head is another one)
 _ADVANCE = "UPDATE head SET version=?, epoch=?, sum=?, seal=? WHERE seal=?"
@@ -55,7 +56,7 @@ class Journal:
     def __init__(self, path: Path, sync: str, settings: Settings) -> None:
         if sync not in SYNCS:
             raise ValueError(f"sync is 'full', 'normal' or 'off', and not {sync!r}")
-        self.place = place_of(path)
+        self.place, self.sync = place_of(path), sync
         self._alone, self._writers = threading.RLock(), WritersLock(self.place)
         self._is_in_doubt = False
         # The ids whose texts the file has, and when the last batch was written.
@@ -110,6 +111,15 @@ class Journal:
         """The last batch, as it is written."""
         with self._alone, faults_told():
             return next(rows_of(self.opened, self.head.version - 1, self.head.version))
+
+    def some_rows(self, after: int, last: int) -> List[Written]:
+        """The batches behind a version, up to another one; those of some megabytes at most."""
+        return self.read(lambda opened: some(rows_of(opened, after, last)))
+
+    def read(self, call: Callable[[sqlite3.Connection], T]) -> T:
+        """What is read in the file."""
+        with self._alone, faults_told():
+            return call(self.opened)
 
     def rows(self, words: str, *values: object) -> List[Any]:
         """What SQLite finds."""

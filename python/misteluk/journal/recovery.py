@@ -15,6 +15,9 @@ from ..engine.waiting import WaitingEngine
 from ..errors import JournalFault
 from ..values.answers import Commit
 
+# How many bytes of records are read at once at most, or those of one batch.
+MOST_BYTES = 4 << 20
+
 
 @dataclass
 class State:
@@ -128,6 +131,18 @@ def rows_of(opened: sqlite3.Connection, after: int, last: int) -> Iterator[Writt
     words = f"SELECT {OF_BATCH} FROM batches WHERE version>? AND version<=? ORDER BY version LIMIT ?"
     rows = opened.execute(words, (after, last, last - after))
     return (Written(*it) for it in rows)
+
+
+def some(rows: Iterator[Written]) -> List[Written]:
+    """The first rows, which have so many bytes at most, or the first one."""
+    found: List[Written] = []
+    size = 0
+    for it in rows:
+        found.append(it)
+        size += len(it.records)
+        if size >= MOST_BYTES:
+            break
+    return found
 
 
 def _take_base(opened: sqlite3.Connection, state: State, last: int) -> None:

@@ -34,6 +34,7 @@ from ..engine.protocol import Denied
 from ..page.page import style
 from ..errors import NotAllowed, StoreError
 from ..journal.engine import Journaled
+from ..journal.replica import told_added, told_base
 
 QUICK_THREADS = 4
 # A date in an address, behind which + and a colon stand as they are: a zone or a time of day.
@@ -80,7 +81,7 @@ class Api:
         # (routes are looked through in order: those that are asked most come first)
         held = [("POST", "/v1/sessions/{session}/ask", self.ask), ("POST", "/v1/sessions", self.hold),
                 ("PUT", "/v1/sessions/{session}", self.keep), ("DELETE", "/v1/sessions/{session}", self.let_go)]
-        others = [("GET", "/v1/stat", self.stat), ("GET", "/v1/events", self.events), ("POST", "/v1/ask", self.several),
+        others = [("GET", "/v1/stat", self.stat), ("GET", "/v1/events", self.events), ("GET", "/v1/log", self.log), ("POST", "/v1/ask", self.several),
                   ("GET", "/v1/sessions", self.sessions), ("POST", "/v1/rows", self.rows),
                   ("POST", "/v1/feeder", self.claim), ("DELETE", "/v1/feeder/{feeder}", self.leave),
                   ("POST", "/v1/feeder/{feeder}/batches/{number}", self.batch),
@@ -168,9 +169,9 @@ class Api:
             after: int = AFTER.read(request.query_params[AFTER.name])
             request.scope[CALL] = "stat_after"
             await self.bell.until(lambda: self.board.stat.version > after, min(LONGEST, self.limits.time))
-        stat, units = self.board.stat, self.store.ledger.terms.units
+        stat, units, replica = self.board.stat, self.store.ledger.terms.units, self.health.replica
         told = {"server": self._run.name, "began": self._run.began, "saved": self._keeper and self._keeper.told(),
-                "file": await self.quick.run(self.health.of_file),
+                "file": await self.quick.run(self.health.of_file), "replica": replica and replica.told(),
                 "version": stat.version, "vertices": stat.names, "edges": stat.edges,
                 "operations_kept": self.store.operations_kept,
                 "blocks": {"all": self.store.blocks, "grow": self.store.engine.grows, "free": stat.free, "retired": stat.retired,
@@ -180,6 +181,19 @@ class Api:
                 "units": {"weight_scale": units.weight_scale, "times": units.times, "decimals": units.decimals,
                           "rounding": units.rounding}}
         return as_json(told)
+
+    async def log(self, request: Request) -> Response:
+        """What a replica applies: the batches behind `after`, for which it waits; without that a base to begin with."""
+        engine = self.store.engine
+        if not isinstance(engine, Journaled):
+            raise ValueError("this server's store has no file, and so no log: misteluk serve FILE")
+        journaled = engine
+        if AFTER.name not in request.query_params:
+            return as_json(await self.slow.run(lambda: told_base(journaled)))
+        after: int = AFTER.read(request.query_params[AFTER.name])
+        request.scope[CALL] = "log_after"
+        await self.bell.until(lambda: self.board.stat.version > after, min(LONGEST, self.limits.time))
+        return as_json(await self.quick.run(lambda: told_added(journaled, after)))
 
     async def events(self, request: Request) -> Events:
         """Each version's counts, as events sent by the server."""

@@ -2,7 +2,7 @@
 from __future__ import annotations
 
 import resource
-from typing import Any, Dict, Iterator, List, Optional
+from typing import TYPE_CHECKING, Any, Dict, Iterator, List, Optional
 
 from .board import Board
 from .door import Door
@@ -13,16 +13,23 @@ from ..journal.engine import Journaled
 from ..version import VERSION
 
 
+if TYPE_CHECKING:
+    from .replica import Replica
+
+
 class Health:
     """A server's health, by what it consists of."""
 
-    def __init__(self, board: Board, feeding: Feeding, keeper: Optional[Keeper], counts: Counts, door: Door) -> None:
+    def __init__(self, board: Board, feeding: Feeding, keeper: Optional[Keeper], counts: Counts, door: Door,
+                 replica: "Optional[Replica]" = None) -> None:
+        self.replica = replica
         self._board, self._feeding, self._keeper, self._counts, self._door = board, feeding, keeper, counts, door
 
     def faults(self) -> List[str]:
         """Why it isn't ready to be asked; nothing where it is."""
         feeding, keeper = self._feeding, self._keeper
-        return [*(["the store's file takes nothing more until the server is started again"] if feeding.store.engine.has_ended
+        return [*(["the first, whose replica this is, can't be read"] if self.replica is not None and self.replica.fault else []),
+                *(["the store's file takes nothing more until the server is started again"] if feeding.store.engine.has_ended
                   else []),
                 *(["the feed failed"] if feeding.state == "failed" else []),
                 *(["the feed's file is still read for the first time"] if feeding.is_reading else []),
@@ -48,6 +55,10 @@ class Health:
         yield gauge("version", "The number of the last version.", stat.version)
         yield gauge("vertices", "Names of the last version.", stat.names)
         yield gauge("edges", "Edges of the last version.", stat.edges)
+        if self.replica is not None:
+            told = self.replica.told()
+            yield gauge("replica_behind_versions", "Versions of the first that aren't here yet.", told["behind"])
+            yield gauge("replica_behind_seconds", "For how long the oldest of them is there.", told["seconds"])
         file = self.of_file()
         if file is not None:
             yield gauge("file_bytes", "Bytes of the store's file.", file["bytes"])

@@ -33,6 +33,8 @@ CALLS: Dict[str, Dict[str, Call]] = {
                              "with `after` as soon as there is a version above that one", schemas.STAT)},
     "/v1/events": {"GET": Call("each version's counts, as events; a reader that comes again says its Last-Event-ID",
                                schemas.TEXT, media="text/event-stream")},
+    "/v1/log": {"GET": Call("what a replica applies: the batches behind `after`, as soon as there are some; without that the base "
+                            "to begin with", schemas.LOG, "admin")},
     "/v1/ask": {"POST": Call("several questions of one version, a hundred at most", schemas.SEVERAL)},
     "/v1/sessions": {"POST": Call("holds the last version, or `version`, until the session is let go or silent too long",
                                   schemas.SESSION, status=201),
@@ -87,7 +89,7 @@ def _question(it: ServedQuestion) -> Dict[str, Any]:
 
 # What calls are asked with in their addresses, and their bodies.
 ASKED = {"POST /v1/sessions": HELD[1], "POST /v1/rows": Parameter("feeder", "the seat of the one that feeds, where it was taken"),
-         "GET /v1/stat": AFTER}
+         "GET /v1/stat": AFTER, "GET /v1/log": AFTER}
 KEYED = ("POST /v1/rows",)
 _OBJECT = {"application/json": {"schema": {"type": "object"}}}
 BODIES = {"POST /v1/rows": OF_ROWS, "POST /v1/sessions/{session}/ask": _OBJECT,

@@ -7,7 +7,7 @@ import secrets
 import socket
 import stat
 import threading
-from typing import Any, Callable, List, NamedTuple, Optional
+from typing import TYPE_CHECKING, Any, Callable, List, NamedTuple, Optional
 
 from . import log
 from .board import Board
@@ -21,6 +21,9 @@ from .people import People
 from ..engine.protocol import LIBRARY
 from ..errors import Missing, StoreError
 from ..store import Store
+
+if TYPE_CHECKING:
+    from .replica import Replica
 
 UNIX = "unix:"
 USUAL = "127.0.0.1:7700"
@@ -118,13 +121,14 @@ class Server:
 
     def __init__(self, store: "Store[Any, Any]", listen: str = USUAL, *, people: Optional[People] = None,
                  limits: ServerLimits = ServerLimits(), keeper: Optional[Keeper] = None, began: str = "without an edge",
-                 manager: Optional[Manager] = None) -> None:
+                 manager: Optional[Manager] = None, replica: "Optional[Replica]" = None) -> None:
         address, self.people = Address.of(listen), people or People()
         if not self.people.are_any and not address.is_of_here:
             raise ValueError(f"{listen} can be reached from other machines: that wants a token (--token-file)")
         if store.engine.name != LIBRARY:
             raise ValueError("a server has its store in its own process, and serves none of another server")
         self.limits, self.store, self._keeper, self._manager = limits.checked(), store, keeper, manager or Manager()
+        self.replica = replica
         self._socket, self.address = address.bound()
         self.board = Board(store, self.limits)
         self.feeding, self.counts = Feeding(self.board, self.limits), Counts()
@@ -145,7 +149,7 @@ class Server:
         from .gate import Gate, Run
         run = Run(secrets.token_urlsafe(9), began)
         self.door = Door(room_for(self.limits.clients + CONNECTIONS))
-        health = Health(self.board, self.feeding, self._keeper, self.counts, self.door)
+        health = Health(self.board, self.feeding, self._keeper, self.counts, self.door, self.replica)
         api = Api(self.board, self.feeding, self.limits, run, self._keeper, health, self.people)
         gate = Gate(api.shortcut(), self.people, bool(self.address.path), run, self.door, self.counts)
         config = uvicorn.Config(gate, http=protocol(Responder(gate, api.answers, self.limits), self.door), log_level="critical",
@@ -181,6 +185,8 @@ class Server:
             beside.append(threading.Thread(target=keeper.run, args=(self.board,), name="keeper"))
         for it in beside:
             it.start()
+        if self.replica is not None:
+            self.replica.begin(self.board)
         try:
             self._runner.run(sockets=[self._socket])
         finally:

@@ -1,0 +1,155 @@
+"""Replicas: servers that have another one's store, by its file or over HTTP, and go on where either is killed."""
+import contextlib
+import os
+import sqlite3
+import time
+import unittest
+from unittest import mock
+
+from journaled import Model, batch, put, told
+from serving import ServeCase
+
+from misteluk import Columns, ReadOnly, Served, Store, StoreError
+from misteluk.journal.replica import FirstFile
+from misteluk.serve.board import Board
+from misteluk.serve.limits import ServerLimits
+from misteluk.serve.replica import Replica
+from misteluk.serve.server import Server
+
+
+class Replicas(ServeCase):
+    def setUp(self):
+        super().setUp()
+        self.path = str(self.room / "graph.db")
+
+    def replica_of(self, name):
+        """A replica whose versions a board has, as a server's."""
+        replica = Replica(name)
+        self.addCleanup(replica.close)
+        self.board = Board(replica.store, ServerLimits())
+        self.addCleanup(self.board.close)
+        replica.begin(self.board)
+        return replica
+
+    def comes_to(self, replica, version):
+        self.until(lambda: self.board.stat.version >= version)
+        self.assertEqual(told(replica.store), Model().upto(version).told())
+
+    def fed(self, store, first, last):
+        for number in range(first, last + 1):
+            put(store, batch(number), producer="feed", sequence=number)
+
+    def test_of_a_file(self):
+        with Store(self.path) as store:
+            self.fed(store, 1, 20)
+            store.file.compact(history=0)
+            self.fed(store, 21, 25)
+            replica = self.replica_of(self.path)
+            self.comes_to(replica, 25)
+            self.fed(store, 26, 60)
+            self.comes_to(replica, 60)
+            self.assertEqual((replica.told(), self.board.stat.version), ({"behind": 0, "seconds": 0.0}, 60))
+            replica.store.insert("k", "a", "b")
+            with self.assertRaisesRegex(ReadOnly, "another one's replica"):
+                replica.store.commit()
+            replica.store.discard()
+        with Store(self.path) as store:  # (the first is begun again)
+            self.fed(store, 61, 70)
+            self.comes_to(replica, 70)
+
+    def test_names_and_units(self):
+        with Store(self.path) as store:
+            replica = self.replica_of(self.path)
+            self.file("rows.csv", "from,to,amount,day\nana,Иванов Пётр,1.50,2024-03-04\n")
+            store.load(str(self.room / "rows.csv"), by="add", weight_scale=100, times="iso",
+                       columns=Columns("from", "to", weight="amount", time="day"))
+            self.until(lambda: self.board.stat.version == 1)
+            with replica.store.open() as session:
+                self.assertEqual([(it[2], str(it[3].weight)) for it in session.edges()], [("Иванов Пётр", "1.50")])
+
+    def test_of_a_server(self):
+        """Both are killed in turn, and neither shows anything else than the first batches."""
+        with Store(self.path, seats=16) as store:
+            self.fed(store, 1, 12)
+            store.file.compact(history=0)
+            self.fed(store, 13, 15)
+            with Server(store, "127.0.0.1:0") as server:
+                port = server.address.port
+                replica = self.replica_of(server.url)
+                self.comes_to(replica, 15)
+                self.fed(store, 16, 40)
+                server.board.advance()
+                self.comes_to(replica, 40)
+        self.until(lambda: replica.fault)
+        self.assertEqual(told(replica.store), Model().upto(40).told())
+        with Store(self.path, seats=16) as store, Server(store, f"127.0.0.1:{port}"):
+            self.fed(store, 41, 45)
+            self.until(lambda: not replica.fault)
+            self.comes_to(replica, 45)
+
+    def test_a_killed_replica_and_a_killed_first(self):
+        socket, other = (f"unix:{self.room / it}" for it in ("first", "second"))
+        first = self.begun(self.path, "--listen", socket)
+        second = self.begun("--replica-of", self.path, "--listen", other)
+        sent = 0
+        for turn in range(3):
+            with Served(socket) as store:
+                for _ in range(5):
+                    sent += 1
+                    store.add("k", f"a{sent}", "b")
+                    store.commit()
+            killed = first if turn % 2 else second
+            killed.kill()
+            killed.wait()
+            if turn % 2:
+                first = self.begun(self.path, "--listen", socket)
+            else:
+                second = self.begun("--replica-of", self.path, "--listen", other)
+            with Served(other) as store:
+                self.until(lambda: store.stat().version == sent)
+                with store.open() as session:
+                    self.assertEqual({it[1] for it in session.edges()}, {f"a{it}" for it in range(1, sent + 1)})
+
+    def begun(self, *words):
+        server = self.command(*words)
+        said = server.stdout.readline()
+        self.assertIn("serves", said, said or server.stderr.read())
+        return server
+
+    def until(self, is_so):
+        end = time.monotonic() + 60
+        while not is_so() and time.monotonic() < end:
+            time.sleep(0.05)
+        self.assertTrue(is_so())
+
+    def test_what_it_can_t_have(self):
+        """A file that isn't what it was: it says so, and answers on; a server that may lose what it has gives nothing."""
+        with Store(self.path, sync="normal", seats=16) as store:
+            self.fed(store, 1, 3)
+            with Server(store, "127.0.0.1:0") as server, self.assertRaisesRegex(StoreError, "sync=normal"):
+                Replica(server.url)
+            replica = self.replica_of(self.path)
+            self.comes_to(replica, 3)
+        with contextlib.closing(sqlite3.connect(self.path)) as opened:
+            opened.execute("UPDATE head SET version=2")
+            opened.commit()
+        self.until(lambda: "isn't as it was written" in replica.fault)
+        self.assertEqual(told(replica.store), Model().upto(3).told())
+        self.assertIn("all that a replica is made of", self.command("--replica-of", self.path, "--sync", "off").communicate()[1])
+
+    def test_what_is_read_is_synced(self):
+        with Store(self.path) as store:
+            self.fed(store, 1, 2)
+            first = FirstFile(self.path)
+            self.addCleanup(first.close)
+            state, _ = first.begin(1)
+            state.engine.close()
+            self.fed(store, 3, 4)
+            synced = []
+            with mock.patch.object(os, "fsync", lambda file: synced.append(os.readlink(f"/proc/self/fd/{file}"))):
+                self.assertEqual([it.version for it in first.added(2).rows], [3, 4])
+            self.assertEqual(sorted(map(os.path.basename, synced)), ["graph.db", "graph.db-wal"])
+
+
+if __name__ == "__main__":
+    unittest.main()
