@@ -163,8 +163,8 @@ class Ledger:
     @alone
     def commit(self, collect: bool, batch: int, feed: Optional[str] = None) -> Commit:
         """Applies what is pending now, and gives the sum of what was applied and not told yet; where a batch is refused the error
-        has it. `feed` says how far a followed feed is in with that. A caller puts `telling`, of which that is the sum, into `taken`
-        as the last thing it does: then it was told."""
+        has it. `feed` says how far a followed feed is in with that. A caller puts `telling`, of which that is the sum, into
+        `taken` as the last thing it does: then it was told."""
         if self.is_closed:
             raise StoreError("the store is closed")
         self._forget_taken()

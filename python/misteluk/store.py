@@ -54,7 +54,6 @@ class Store(Uncopied, Generic[W, T]):
     or in its own file: `Store("graph.db")` makes it or goes on with it, and every batch is in it before anybody sees it
     (docs/DURABLE.md); so are units and limits. `sync="full"` has each batch on the disk before `commit` returns; with "normal" or
     "off" a loss of power may cost the last ones. `history`: how many versions are kept, or of how long ago (`timedelta`).
-
     The store is a library's, in this process: `LibraryNotFound` where it can't be loaded.
 
     `blocks`: how many blocks hold edges, from 16 on; each has room for 32 edges of one kind and source, and takes 1 KB once it is

@@ -1,5 +1,5 @@
-"""A server whose store has a file: killed and begun again, it has what was acknowledged, gives a repeat the first answer, and goes
-on in the file that it follows."""
+"""A server whose store has a file: killed and begun again, it has what was acknowledged, gives a repeat the first answer, and
+goes on in the file that it follows."""
 import http.client
 import json
 import os

@@ -164,8 +164,8 @@ class Journal:
                 self.settings = settings
 
     def shrink(self) -> bool:
-        """Gives some of the pages that nothing uses back to the disk, and tells whether there are more. (Where that fails they are
-        used for what comes.)"""
+        """Gives some of the pages that nothing uses back to the disk, and tells whether there are more. (Where that fails they
+        are used for what comes.)"""
         with self._alone, suppress(sqlite3.Error):
             self.opened.execute(f"PRAGMA incremental_vacuum({AT_ONCE})").fetchall()
             left: int = self.opened.execute("PRAGMA freelist_count").fetchone()[0]

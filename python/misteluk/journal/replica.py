@@ -99,7 +99,7 @@ class Copy(AsOf):
     def take(self, added: Added) -> None:
         """Applies what was added. Raises `JournalFault` where it isn't what comes next: what came before it is in."""
         if added.newest < self.state.version:
-            raise JournalFault(f"the first has version {added.newest} only, where {self.state.version} was there: it is another one")
+            raise JournalFault(f"the first has version {added.newest} only, and had {self.state.version}: it is another one")
         for row in added.rows:
             self.state.replay(row)
         if added.rows:
@@ -135,8 +135,8 @@ def told_base(engine: Journaled) -> Dict[str, Any]:
 def must_be_synced(engine: Journaled) -> None:
     """Raises `JournalFault` where what the file has may be lost."""
     if engine.sync != "full":
-        raise JournalFault(f"the store's file is written with sync={engine.sync}: a replica could show what a loss of power takes "
-                           "back")
+        raise JournalFault(f"the store's file is written with sync={engine.sync}: a replica could show what a loss of power "
+                           "takes back")
 
 
 def read_added(told: Mapping[str, Any]) -> Added:

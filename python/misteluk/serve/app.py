@@ -81,7 +81,8 @@ class Api:
         # (routes are looked through in order: those that are asked most come first)
         held = [("POST", "/v1/sessions/{session}/ask", self.ask), ("POST", "/v1/sessions", self.hold),
                 ("PUT", "/v1/sessions/{session}", self.keep), ("DELETE", "/v1/sessions/{session}", self.let_go)]
-        others = [("GET", "/v1/stat", self.stat), ("GET", "/v1/events", self.events), ("GET", "/v1/log", self.log), ("POST", "/v1/ask", self.several),
+        others = [("GET", "/v1/stat", self.stat), ("GET", "/v1/events", self.events), ("GET", "/v1/log", self.log),
+                  ("POST", "/v1/ask", self.several),
                   ("GET", "/v1/sessions", self.sessions), ("POST", "/v1/rows", self.rows),
                   ("POST", "/v1/feeder", self.claim), ("DELETE", "/v1/feeder/{feeder}", self.leave),
                   ("POST", "/v1/feeder/{feeder}/batches/{number}", self.batch),

@@ -42,7 +42,8 @@ class Health:
         if not isinstance(store.engine, Journaled):
             return None
         kept = store.file.kept
-        return {"oldest": kept.oldest, "bytes": kept.bytes, **({} if kept.compacted is None else {"base": kept.compacted.version}),
+        return {"oldest": kept.oldest, "bytes": kept.bytes,
+                **({} if kept.compacted is None else {"base": kept.compacted.version}),
                 **({} if kept.fault is None else {"fault": type(kept.fault).__name__})}
 
     def text(self) -> str:

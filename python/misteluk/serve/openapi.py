@@ -33,8 +33,8 @@ CALLS: Dict[str, Dict[str, Call]] = {
                              "with `after` as soon as there is a version above that one", schemas.STAT)},
     "/v1/events": {"GET": Call("each version's counts, as events; a reader that comes again says its Last-Event-ID",
                                schemas.TEXT, media="text/event-stream")},
-    "/v1/log": {"GET": Call("what a replica applies: the batches behind `after`, as soon as there are some; without that the base "
-                            "to begin with", schemas.LOG, "admin")},
+    "/v1/log": {"GET": Call("what a replica applies: the batches behind `after`, as soon as there are some; without that the "
+                            "base to begin with", schemas.LOG, "admin")},
     "/v1/ask": {"POST": Call("several questions of one version, a hundred at most", schemas.SEVERAL)},
     "/v1/sessions": {"POST": Call("holds the last version, or `version`, until the session is let go or silent too long",
                                   schemas.SESSION, status=201),

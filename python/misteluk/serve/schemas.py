@@ -51,7 +51,8 @@ REPLICA = of({"behind": WHOLE, "seconds": NUMBER}, reason=TEXT)
 LOG = of({"newest": WHOLE, "settings": {"type": "object"}}, rows={"type": "array"}, base=or_null({"type": "object"}))
 _OF_FIELD = {"is_last": TRUTH, "session": TEXT, "owner": TEXT, "silent": NUMBER}
 STAT = of({
-    "server": TEXT, "began": TEXT, "saved": or_null(SAVED), "file": or_null(FILE), "replica": or_null(REPLICA), "version": WHOLE, "vertices": WHOLE, "edges": WHOLE,
+    "server": TEXT, "began": TEXT, "saved": or_null(SAVED), "file": or_null(FILE), "replica": or_null(REPLICA),
+    "version": WHOLE, "vertices": WHOLE, "edges": WHOLE,
     "operations_kept": or_null(WHOLE), "seats": WHOLE, "feed": FEED,
     "blocks": of({"all": WHOLE, "grow": TRUTH, "free": WHOLE, "retired": WHOLE, "used": WHOLE}),
     "held": rows_of(of({it: _OF_FIELD.get(it, WHOLE) for it in HeldVersion._fields})),
