@@ -48,7 +48,7 @@ def feed(pipe: IO[str], rate: int, is_over: threading.Event) -> None:
 def ask(url: str, seed: int, pause: float, until: float, times: Times) -> None:
     """A client: notes the seconds that each question took."""
     import misteluk
-    chance, store = random.Random(seed), misteluk.Served(url)
+    chance, store = random.Random(seed), misteluk.connect(url)
     while time.time() < until:
         with store.open() as session:
             end = time.time() + 1
@@ -56,7 +56,7 @@ def ask(url: str, seed: int, pause: float, until: float, times: Times) -> None:
             while time.time() < min(end, until):
                 source, target = f"v{int(NAMES * chance.random() ** 3)}", f"v{chance.randrange(NAMES)}"
                 calls: Tuple[Callable[[], object], ...] = (
-                    lambda: session.edges([("link", source, target)], missing=None), lambda: source in session,
+                    lambda: session.get_edges([("link", source, target)], missing=None), lambda: session.has_vertex(source),
                     lambda: session.degrees())
                 for name, call in zip(QUESTIONS, calls):
                     spent = watch()
@@ -99,7 +99,7 @@ def server(url: str) -> Iterator["subprocess.Popen[str]"]:
 
 def fed_rows(store: Any) -> int:
     """How many rows of the feed came in so far."""
-    return int(store.engine.talk.call("GET", "/v1/stat").json()["feed"]["rows"])
+    return int(store._engine.talk.call("GET", "/v1/stat").json()["feed"]["rows"])
 
 
 def asked(store: Any, url: str, count: int, pause: float, seconds: float) -> Tuple[Times, float]:
@@ -130,10 +130,10 @@ def measured(room: pathlib.Path, rate: int, count: int, pause: float, seconds: f
         feeder = threading.Thread(target=feed, args=(process.stdin, rate, is_over))
         feeder.start()
         try:
-            store = misteluk.Served(url)
+            store = misteluk.connect(url)
             time.sleep(2)
             times, taken = asked(store, url, count, pause, seconds)
-            store.kill()
+            store._kill()
         finally:
             is_over.set()
             process.terminate()

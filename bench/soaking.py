@@ -45,7 +45,7 @@ def feed(pipe: IO[str], rate: int, new_names: int, is_over: threading.Event) -> 
 
 def asked(session: Any, chance: random.Random, names: List[str]) -> None:
     vertex = chance.choice(names) if names else "v1"
-    calls: List[Any] = [session.out_of, session.levels, session.neighbors, session.out_of]
+    calls: List[Any] = [session.successors, session.levels, session.neighbors, session.successors]
     chance.choice(calls)(vertex)
 
 
@@ -57,12 +57,12 @@ def tell(sort: str, met: Counter[str]) -> None:
 
 def holding(session: Any, chance: random.Random, met: Counter[str]) -> None:
     """Asks twice a second for half a minute to two, while later versions come: what it holds stays as it is."""
-    first = session.version, len(session), session.degrees().dict()
+    first = session.version, session.edge_count, session.degrees().dict()
     for count in range(chance.randrange(60, 240)):
         asked(session, chance, list(first[2]))
         met["answers"] += 1
         if count % 10 == 9:
-            is_same = (session.version, len(session), session.degrees().dict()) == first
+            is_same = (session.version, session.edge_count, session.degrees().dict()) == first
             met["the version as it was" if is_same else "another version than the one held"] += 1
             tell(HOLDS, met)
         time.sleep(0.5)
@@ -94,7 +94,7 @@ def client(url: str, sort: str, seed: str) -> None:
     while True:
         met: Counter[str] = collections.Counter()
         try:
-            with misteluk.connect(url) as session:
+            with misteluk.connect(url) as of_session, of_session.open() as session:
                 does(session, chance, met)
         except misteluk.StoreError as fault:
             met[type(fault).__name__] += 1
@@ -209,5 +209,5 @@ class Watched:
 
 
 def stat_of(store: Any) -> Dict[str, Any]:
-    found: Dict[str, Any] = store.engine.talk.call("GET", "/v1/stat").json()
+    found: Dict[str, Any] = store._engine.talk.call("GET", "/v1/stat").json()
     return found

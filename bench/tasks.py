@@ -45,11 +45,11 @@ def transfers(count: int, folder: pathlib.Path) -> None:
         step("load", lambda: store.load(frame, by="add", columns=Columns("source", "target", weight="amount", time="time")))
         session, wanted = store.open(), sums(frame)
         for _ in range(3):
-            found = step("edges_frame", session.edges_frame)
+            found = step("edges().frame()", lambda: session.edges().frame())
             must_be("the edges", {(it.source, it.target): (it.weight, it.first, it.recent)
                                   for it in found.itertuples()} == wanted)
         late = {ends for ends, (_, _, recent) in wanted.items() if recent >= count // 200 * DAY}
-        part = step("a window", lambda: session.edges_frame(since=count // 200 * DAY))
+        part = step("a window", lambda: session.edges(since=count // 200 * DAY).frame())
         must_be("the edges of a window", set(zip(part.source, part.target)) == late)
         out: Dict[str, int] = {}
         for (source, _), (weight, _, _) in wanted.items():
@@ -85,10 +85,10 @@ def logistics() -> None:
             for name in names[:100]:
                 for session, known in ((before, was), (after, graph)):
                     plain = networkx.Graph(known)
-                    if name in session:
-                        must_be("neighborhoods", session.within(name, 2, directed=False) == dict(
+                    if session.has_vertex(name):
+                        must_be("neighborhoods", session.neighborhood(name, 2, directed=False) == dict(
                             networkx.single_source_shortest_path_length(plain, name, 2)))
-                        must_be("neighbors", set(session.out_of(name)) == set(known.successors(name)))
+                        must_be("neighbors", set(session.successors(name)) == set(known.successors(name)))
         step("100 neighborhoods in two versions, with networkx's", neighborhoods)
         step("10 pages", lambda: [view(before, name, 1, beside=after) for name in names[:10]])
 
@@ -101,7 +101,7 @@ def dependencies(count: int, folder: pathlib.Path) -> None:
     with Store(blocks=65_536) as store:
         step("load", lambda: store.load(frame, by="add", columns=Columns("source", "target", weight="amount", time="time")))
         session, wanted = store.open(), sums(frame)
-        found = step("edges_frame", session.edges_frame)
+        found = step("edges().frame()", lambda: session.edges().frame())
         must_be("the edges", {(it.source, it.target): (it.weight, it.first, it.recent) for it in found.itertuples()} == wanted)
         graph = step("to_networkx", session.to_networkx)
         must_be("networkx's edges", {(source, target): weight for source, target, weight in graph.edges(data="weight")}

@@ -42,8 +42,8 @@ def degrees_of(model: Model) -> Degrees:
 def compare(store: Any, model: Model) -> None:
     """Stops where the last version isn't what the model is."""
     with store.open() as session:
-        found = session.edges([("truck", *it) for it in model])
-        degrees = {name: tuple(it) for name, it in session.degrees().items() if it.out or it.into}
+        found = session.get_edges([("truck", *it) for it in model])
+        degrees = {name: (it.out, it.into, it.weight_out) for name, it in session.degrees().items() if it.out or it.into}
     if [tuple(it) for it in found] != list(model.values()):
         stop("the edges differ from the model's")
     if store.stat().edges != len(model) or degrees != degrees_of(model):
@@ -77,7 +77,7 @@ class Feed:
         self.compared += spent().elapsed
         stat = self.store.stat()
         print(f"{self.spent().elapsed:.1f} s: {at} operations, {len(self.names)} names in all; equal: version "
-              f"{stat.version}, {len(self.model)} edges, {stat.names} names there", flush=True)
+              f"{stat.version}, {len(self.model)} edges, {stat.vertices} names there", flush=True)
 
 
 def measure(words: argparse.Namespace, _: pathlib.Path) -> None:

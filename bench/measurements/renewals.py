@@ -31,7 +31,7 @@ def feed(store: Any, edges: int) -> None:
 
 def renewed(store: Any) -> float:
     spent = watch()
-    store.renew()
+    store.compact()
     return spent().processor
 
 

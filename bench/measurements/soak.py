@@ -104,7 +104,7 @@ def measure(words: argparse.Namespace, room: pathlib.Path) -> int:
     server, is_over, no_feed = Watched(room), threading.Event(), threading.Event()
     feeder = threading.Thread(target=soaking.feed, args=(server.process.stdin, words.rate, words.new_names, no_feed))
     feeder.start()
-    store = misteluk.Served(server.url)
+    store = misteluk.connect(server.url)
     try:
         found = watched(server, 60 * words.minutes, is_over, store)
     finally:
@@ -112,7 +112,7 @@ def measure(words: argparse.Namespace, room: pathlib.Path) -> int:
         server.process.terminate()
         status = server.process.wait()
         feeder.join()
-        store.kill()
+        store._kill()
     found += [f"the server ended in status {status}"] if status else []
     print(f"soak: {'; '.join(found) or 'as it should be'}")
     return int(bool(found))

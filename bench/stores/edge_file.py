@@ -78,20 +78,20 @@ class Client:
         return self.session.cores()
 
     def out_of(self) -> Any:
-        return [self.session.edges_out_of(it) for it in self.given.asked]
+        return [self.session.out_edges(it) for it in self.given.asked]
 
     def into(self) -> Any:
-        return [self.session.edges_into(it) for it in self.given.asked]
+        return [self.session.in_edges(it) for it in self.given.asked]
 
     into_again = into
 
     def arrays(self) -> Any:
         with self.store.open() as session:
-            return session.edges_columns()
+            return session.edges()
 
     def frame(self) -> Any:
         with self.store.open() as session:
-            return session.edges_frame()
+            return session.edges().frame()
 
     def gathered(self) -> int:
         for it in range(SINGLE):
@@ -107,7 +107,7 @@ class Client:
 
     def told(self, what: str, found: Any) -> Any:
         """The answer by names, as the others' are told."""
-        names = self.session.edges_columns().names
+        names = self.session.edges().names
         if what == "degrees":
             return {name: (out, into) for name, out, into in zip(names, *found)}
         if what in ("weights", "weights_in"):

@@ -45,13 +45,13 @@ class Client:
         self.session = self.store.open()
 
     def into(self, name: str) -> Any:
-        return self.session.into(name)
+        return self.session.predecessors(name)
 
     def path(self, source: str, target: str) -> Any:
         return self.session.path(source, target)
 
     def within(self, name: str) -> Any:
-        return self.session.within(name, HOPS)
+        return self.session.neighborhood(name, HOPS)
 
     def edges(self) -> List[Edge]:
         return [(source, target, it.weight, it.first, it.recent) for _, source, target, it in self.session.edges()]

@@ -6,6 +6,7 @@ A caller notes as the last thing it does that it gives what a commit did (`guard
 """
 from __future__ import annotations
 
+from dataclasses import replace
 from typing import Any, Dict, List, NamedTuple, Optional, Sequence, Tuple
 
 from .engine.calling import MOST_AT_ONCE
@@ -42,7 +43,7 @@ class Books(NamedTuple):
 class Ledger:
     """The pending operations of a store, in the engine's terms, and what became of its batches."""
 
-    def __init__(self, engine: Engine, units: Units, units_are_set: bool) -> None:
+    def __init__(self, engine: Engine, units: Units[Any, Any], units_are_set: bool) -> None:
         self.engine, self.terms, self.units_are_set = engine, Terms(units=units), units_are_set
         self.pending: List[Row] = []
         # The kinds that the store was told of, in order.
@@ -119,16 +120,14 @@ class Ledger:
 
     # Terms.
 
-    def terms_for(self, weight_scale: Optional[int], times: Optional[str], rounding: Optional[str]) -> Terms:
-        """The terms of a feed in the units that are said, or in the store's. Raises `ValueError` where the store has others, and
-        where there is no such rounding."""
-        mine = self.terms.units
-        said = Units(mine.weight_scale if weight_scale is None else weight_scale, times or mine.times, mine.decimals,
-                     rounding or mine.rounding).checked()
+    def terms_for(self, units: Units[Any, Any]) -> Terms:
+        """The terms of a feed in these units, and where they aren't given in the store's. Raises `ValueError` where the store has
+        others."""
+        said = units.or_those(self.terms.units)
         self.must_agree(said)
         return Terms(self.terms.names, said, self.terms.right)
 
-    def must_agree(self, units: Units) -> None:
+    def must_agree(self, units: Units[Any, Any]) -> None:
         if self.units_are_set and not units.same_as(self.terms.units):
             raise ValueError(f"the store's units are {self.terms.units}, and those of what is to be loaded {units}")
 
@@ -140,7 +139,8 @@ class Ledger:
 
     def _take(self, terms: Terms, kinds: Sequence[str] = ()) -> None:
         self.terms.names.take(terms.names)
-        self.terms.units = terms.units._replace(decimals=self.terms.units.decimals, rounding=self.terms.units.rounding)
+        mine = self.terms.units
+        self.terms.units = replace(terms.units, decimals=mine.decimals, rounding=mine.rounding)
         self.units_are_set = True
         self.kinds.update(dict.fromkeys(kinds))
 
@@ -223,7 +223,7 @@ class Ledger:
     def begin_anew(self, version: int) -> None:
         """Takes in that the store's last version has this number now: so has that of what wasn't told yet."""
         self._forget_taken()
-        self._books = self._books._replace(untold=tuple([it._replace(version=version) for it in self._books.untold]))
+        self._books = self._books._replace(untold=tuple([replace(it, version=version) for it in self._books.untold]))
 
     @alone
     def end(self) -> None:

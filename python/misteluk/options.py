@@ -1,28 +1,45 @@
-"""The options of a store, as an editor completes them and mypy checks them."""
+"""The options of calls, as an editor completes them and mypy checks them."""
 from __future__ import annotations
 
 from datetime import timedelta
-from typing import Literal, Optional, TypedDict, Union
+from typing import TYPE_CHECKING, Any, Literal, Optional, TypedDict, Union
 
-from .values.limits import Limits
+if TYPE_CHECKING:
+    from .feeds.feed import Columns
+    from .values.limits import Limits
+    from .values.units import Units
 
-# Times that are whole numbers, where nothing else is said.
-Plain = Optional[Literal["number"]]
+By = Literal["set", "add"]
+Sync = Literal["full", "normal", "off"]
 
 
-class Beside(TypedDict, total=False):
-    """The options of a store that have no part in what its weights and times are."""
+class RestoreOptions(TypedDict, total=False):
+    """The options of a store that is made of a saved version: see `Store`."""
 
-    rounding: Optional[str]
-    blocks: Optional[int]
     limits: Optional[Limits]
     seats: int
     endless: bool
-    sync: str
+
+
+class StoreOptions(RestoreOptions, total=False):
+    """The options of a store: see `Store`."""
+
+    blocks: Optional[int]
+    sync: Sync
     history: Union[int, timedelta, None]
 
 
-class OfStore(Beside, total=False):
-    """The same, and how weights are told."""
+class ReadOptions(TypedDict, total=False):
+    """How a feed is read: see `misteluk.feeds.opening.ReadAs`."""
 
-    decimals: str
+    columns: Columns
+    format: Optional[Literal["delimited", "snap", "matrix"]]
+    delimiter: Optional[str]
+    header: Optional[bool]
+    third: Optional[Literal["weight", "time"]]
+    both_ways: bool
+    encoding: str
+    decimal: Literal[".", ","]
+    dates: Optional[Literal["dd.mm.yyyy", "dd/mm/yyyy", "mm/dd/yyyy", "seconds", "milliseconds", "microseconds"]]
+    names: Literal["plain", "escape"]
+    units: Optional[Units[Any, Any]]

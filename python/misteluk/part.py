@@ -36,8 +36,8 @@ class Part:
             raise
 
     def ask(self, question: Union[str, Callable[..., Any]], *given: Any, **named: Any) -> Any:
-        """What a function of the session gives, or the session's call of this name, with further arguments. An iterator, as of
-        all edges, comes as a list, which can be sent."""
+        """What a function of the session gives, or the session's call of this name, with further arguments. An iterator
+        comes as a list, which can be sent."""
         if isinstance(question, str):
             answer = getattr(self.session, question)(*given, **named)
         else:
@@ -47,7 +47,7 @@ class Part:
     def __sizeof__(self) -> int:
         """About how many bytes the store takes, by which dask knows when a worker's memory is full."""
         stat = self.session.store.stat()
-        return stat.used * BYTES_A_BLOCK + stat.names * BYTES_A_NAME
+        return stat.used * BYTES_A_BLOCK + stat.vertices * BYTES_A_NAME
 
     def __reduce__(self) -> Any:
         return _made, self._given

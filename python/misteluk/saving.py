@@ -9,6 +9,7 @@ from __future__ import annotations
 import hashlib
 import os
 import re
+from dataclasses import dataclass
 from typing import TYPE_CHECKING, Any, Callable, Dict, List, NamedTuple, Optional, Tuple
 from urllib.parse import unquote
 
@@ -24,6 +25,7 @@ from .errors import Missing, PoolEmpty, SaveFault, StoreError
 from .feeds.feed import escaped, parts_of
 from .values.texts import Path
 from .values.names import MARK
+from .values.units import NUMBER, Units
 from .feeds.progress import Progress
 
 if TYPE_CHECKING:
@@ -43,13 +45,14 @@ _END = f"i,{KIND},end,of-head,0,0\n{_REBASE}"
 _WRITTEN_AT_ONCE = 1 << 20
 
 
-class Saved(NamedTuple):
-    """What a save wrote: the file, the version, its names and edges; how many records a run is given by the file, and how many
+@dataclass(frozen=True)
+class Saved:
+    """What a save wrote: the file, the version, its vertices and edges; how many records a run is given by the file, and how many
     blocks it needs for them."""
 
     path: str
     version: int
-    names: int
+    vertices: int
     edges: int
     records: int
     blocks: int
@@ -57,7 +60,7 @@ class Saved(NamedTuple):
     def __str__(self) -> str:
         is_script = self.records <= records.MOST_RECORDS and self.blocks <= records.MOST_BLOCKS
         told = f" for `stinger run --blocks {self.blocks}`" if is_script else ", more than `stinger run` takes"
-        return f"{self.path}: version {self.version} with {size_of(self.names, self.edges)}, in {self.records} records{told}"
+        return f"{self.path}: version {self.version} with {size_of(self.vertices, self.edges)}, in {self.records} records{told}"
 
 
 def size_of(names: int, edges: int) -> str:
@@ -80,7 +83,7 @@ def save(session: "Session[Any, Any]", path: Path, progress: Optional[bool] = No
     """Writes the version that the session holds as one file. See `Session.save`."""
     ending = files.ending_of(path)
     files.place_of(path)
-    content = content_of(session.held)
+    content = content_of(session._held)
     operations = operations_of(content)
     room = Room(operations)
     blocks = room.fitting()
@@ -107,11 +110,11 @@ def _head(session: "Session[Any, Any]", content: Content, needed: int) -> str:
     names and blocks are enough."""
     store, units = session.store, session.store.units
     facts = {"version": session.version, "names": len(content.names), "edges": content.edges.size, "blocks": store.blocks,
-             "needed": needed, **({"grows": 1} if store.engine.grows else {})}
+             "needed": needed, **({"grows": 1} if store._engine.grows else {})}
     told = [(it, str(value)) for it, value in facts.items()]
-    if store.ledger.units_are_set:
-        told += [("weight_scale", str(units.weight_scale)), ("times", units.times)]
-    to_user = store.ledger.terms.names.to_user
+    if store._ledger.units_are_set:
+        told += [("weight_scale", str(units.weight_scale)), ("times", units.times or NUMBER)]
+    to_user = store._ledger.terms.names.to_user
     texts = ((it, to_user(it)) for it in dict.fromkeys([*content.kinds, *content.names]) if it.startswith(MARK))
     told += [(it, piece) for it, text in texts if text != it for piece in _pieces(escaped(text))]
     lines = (records.record(("i", KIND, it, piece, "0", "0")) for it, piece in told)
@@ -167,10 +170,9 @@ def _told(head: str) -> Tuple[Dict[str, str], Dict[str, str]]:
     return facts, {it: unquote(text) for it, text in pieces.items() if it.startswith(MARK)}
 
 
-def restore(path: Path, make: "Callable[[int, Optional[int], Optional[str]], Store[Any, Any]]", blocks: Optional[int],
+def restore(path: Path, make: "Callable[[int, Units[Any, Any]], Store[Any, Any]]", blocks: Optional[int],
             progress: Optional[bool]) -> "Store[Any, Any]":
-    """A store of a saved file. `make` makes it, with so many blocks, and a weight scale and times where those are said. See
-    `Store.restore`."""
+    """A store of a saved file. `make` makes it, with so many blocks and in the file's units. See `Store.restore`."""
     found = read(path)
     grows = blocks is None and "grows" in found.facts
     size = records.MOST_OPERATIONS
@@ -183,15 +185,16 @@ def restore(path: Path, make: "Callable[[int, Optional[int], Optional[str]], Sto
             blocks = most if room.batch(most) else room.fitting()
         size = _batch(os.fspath(path), found, room, blocks)
     scale = int(found.facts["weight_scale"]) if "weight_scale" in found.facts else None
+    times: Any = found.facts.get("times")
     store: Optional[Store[Any, Any]] = None
     try:
-        store = make(blocks, scale, found.facts.get("times"))
-        store.engine.grows = grows
-        store.engine.fit(found.count("names"), len(found.operations.of_kinds.names), found.count("needed"))
+        store = make(blocks, Units(scale, times))
+        store._engine.grows = grows
+        store._engine.fit(found.count("names"), len(found.operations.of_kinds.names), found.count("needed"))
         _fill(store, found, size, Progress(f"restoring {os.fspath(path)}", len(found.operations.codes), progress))
         stat, wanted = store.stat(), (found.count("names"), found.count("edges"))
-        if (stat.names, stat.edges) != wanted:
-            raise StoreError(f"{stat.names} names and {stat.edges} edges came of {os.fspath(path)}, and not {wanted}")
+        if (stat.vertices, stat.edges) != wanted:
+            raise StoreError(f"{stat.vertices} names and {stat.edges} edges came of {os.fspath(path)}, and not {wanted}")
         return store
     except BaseException as fault:
         if store is not None:
@@ -201,7 +204,7 @@ def restore(path: Path, make: "Callable[[int, Optional[int], Optional[str]], Sto
 
 def _fill(store: "Store[Any, Any]", found: Found, size: int, told: Progress) -> None:
     """Applies a file's operations, in batches of this size, to an empty store, and takes its names and kinds."""
-    ledger = store.ledger
+    ledger = store._ledger
     ledger.terms.names.put(found.texts)
     at, count = 0, len(found.operations.codes)
     while at < count:

@@ -4,6 +4,7 @@ from __future__ import annotations
 from operator import add
 from typing import TYPE_CHECKING, Any, Dict, List, Mapping, Optional
 
+from .errors import StoreError
 from .values.answers import Edge
 from .values.edges import Edges, Told
 from .values.units import Moment
@@ -13,12 +14,16 @@ if TYPE_CHECKING:
 
 
 def back(session: "Session[Any, Any]", levels: Mapping[str, int], target: str, kind: Optional[str], since: Moment,
-         until: Moment) -> List[Told]:
+         until: Moment) -> List[Told[Any, Any]]:
     """The edges of a shortest walk to the target, from where the levels begin."""
-    walk: List[Told] = []
+    walk: List[Told[Any, Any]] = []
     at = target
     while levels[at] > 0:
-        step = next(it for it in session.edges_into(at, kind, since, until) if levels.get(it[1]) == levels[at] - 1)
+        for step in session.in_edges(at, kind, since, until):
+            if levels.get(step[1]) == levels[at] - 1:
+                break
+        else:
+            raise StoreError(f"no edge leads to {at!r} from where it was reached")
         walk.append(step)
         at = step[1]
     return walk[::-1]
@@ -28,12 +33,12 @@ def reached(session: "Session[Any, Any]", vertex: str, hops: int, kind: Optional
             until: Moment) -> Dict[str, int]:
     """The vertices that are reached in at most so many steps along edges either way, and in how many."""
     near, front = {vertex: 0}, [vertex]
-    session.edges_out_of(vertex, kind, since, until)  # (raises where the version doesn't have the vertex or the kind)
+    session.out_edges(vertex, kind, since, until)  # (raises where the version doesn't have the vertex or the kind)
     for hop in range(1, hops + 1):
         found: Dict[str, None] = {}
         for name in front:
-            found.update(dict.fromkeys(it[2] for it in session.edges_out_of(name, kind, since, until)))
-            found.update(dict.fromkeys(it[1] for it in session.edges_into(name, kind, since, until)))
+            found.update(dict.fromkeys(it[2] for it in session.out_edges(name, kind, since, until)))
+            found.update(dict.fromkeys(it[1] for it in session.in_edges(name, kind, since, until)))
         front = [it for it in found if it not in near]
         if not front:
             break
@@ -41,15 +46,14 @@ def reached(session: "Session[Any, Any]", vertex: str, hops: int, kind: Optional
     return near
 
 
-def summed(edges: Edges, end: int) -> Dict[str, Edge[Any, Any]]:
+def summed(edges: Edges[Any, Any], end: int) -> Dict[str, Edge[Any, Any]]:
     """Edges by one of their ends, 1 or 2; those of several kinds are one."""
-    names = map(edges.names.__getitem__, edges.source if end == 1 else edges.target)
-    found: Dict[str, Edge[Any, Any]] = dict(zip(names, edges.edges()))
+    ends = edges.source if end == 1 else edges.target
+    found: Dict[str, Edge[Any, Any]] = dict(zip(map(edges.names.__getitem__, ends), edges._marks()))
     if len(found) == len(edges):
         return found
     found = {}
-    for it in edges:
-        name, edge = it[end], it[3]
+    for name, edge in zip(map(edges.names.__getitem__, ends), edges._marks()):
         other = found.get(name)
         found[name] = edge if other is None else Edge(add(other.weight, edge.weight), min(other.first, edge.first),
                                                       max(other.recent, edge.recent))

@@ -2,7 +2,6 @@
 from __future__ import annotations
 
 import asyncio
-from collections.abc import Iterator
 from typing import Any, Callable, Dict, List, Tuple
 
 from support import optional
@@ -13,29 +12,29 @@ from misteluk import Answer, Diff, Edges, Session
 ROWS = ("insert k a b 5 1", "insert k b c 7 2", "insert l a c 3 3", "insert l c d 4 4", "insert k d a 9 5", "add k a b 1 6")
 LATER = ("remove l a c", "add k b c 2 7", "insert m d b 6 8")
 # What of a session asks for no answer.
-NO_ANSWERS = {"close", "is_open", "must_be_open", "save", "store", "held", "slot", "version", "names"}
-NEEDED = {"edges_frame": "pandas", "to_networkx": "networkx", "to_igraph": "igraph", "to_scipy": "scipy"}
+NO_ANSWERS = {"close", "edge_count", "is_open", "save", "store", "version", "vertex_count"}
+NEEDED = {"to_networkx": "networkx", "to_igraph": "igraph", "to_scipy": "scipy"}
 Call = Tuple[str, Callable[..., Any], Tuple[Any, ...]]
 
 
 def calls(path: str) -> List[Call]:
     """The calls by name, with what each is given besides the session. A file that one writes has this path."""
     given: Dict[str, Tuple[Any, ...]] = {
-        "edge": ("k", "a", "b"), "levels": ("a",), "path": ("a", "d"), "within": ("a", 2), "to_csv": (path,),
-        **dict.fromkeys(("edges_out_of", "edges_into", "out_of", "into", "neighbors"), ("a",))}
+        "edge": ("k", "a", "b"), "levels": ("a",), "path": ("a", "d"), "neighborhood": ("a", 2), "to_csv": (path,),
+        "get_edges": ([("k", "a", "b"), ("k", "b", "c")],), "has_edge": ("k", "a", "b"), "has_vertex": ("a",),
+        **dict.fromkeys(("out_edges", "in_edges", "successors", "predecessors", "neighbors"), ("a",))}
     of_session = sorted({it for it in vars(Session) if not it.startswith("_")} - NO_ANSWERS - {"diff"})
     found: List[Call] = [(it, getattr(Session, it), given.get(it, ())) for it in of_session
                          if optional(NEEDED.get(it, "misteluk"))]
     found += [(f"{it} of a kind", getattr(Session, it), (*given.get(it, ()), "k", 1, 6)) for it in (
-        "levels", "components", "cores", "degrees", "weights_in", "edges_columns", "edges_out_of", "edges_into")]
+        "levels", "components", "cores", "degrees", "weights_in", "edges", "out_edges", "in_edges")]
     return found + [
-        ("some edges", Session.edges, ([("k", "a", "b"), ("k", "b", "c")],)), ("len", len, ()),
-        ("in", Session.__contains__, (("k", "a", "b"),)), ("a name in", Session.__contains__, ("a",)),
-        ("either way", lambda session: session.within("a", 2, directed=False), ()),
+        ("edge count", lambda session: session.edge_count, ()), ("a frame", lambda session: session.edges().frame(), ()),
+        ("either way", lambda session: session.neighborhood("a", 2, directed=False), ()),
         ("diff", lambda session: session.diff(session), ()), ("view", misteluk.view, ("a",))]
 
 
-def awaited(session: "misteluk.AwaitedSession[Any, Any]", loop: asyncio.AbstractEventLoop) -> Callable[..., Any]:
+def awaited(session: "misteluk.AsyncSession[Any, Any]", loop: asyncio.AbstractEventLoop) -> Callable[..., Any]:
     """Makes a call of an awaited session."""
     def ask(call: Callable[..., Any], *given: Any) -> Any:
         name = getattr(call, "__name__", "")
@@ -66,4 +65,4 @@ def plain(found: Any) -> Any:
         return [found.vs["name"], found.get_edgelist(), *(found.es[it] for it in ("kind", *misteluk.Edge._fields))]
     if kind == "csr_matrix":
         return found.toarray().tolist()
-    return [plain(it) for it in found] if isinstance(found, (list, Iterator)) else found
+    return [plain(it) for it in found] if isinstance(found, list) else found

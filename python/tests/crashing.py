@@ -15,7 +15,8 @@ import time
 from journaled import Model, batch, put, told
 from support import HERE
 
-from misteluk import JournalFault, NotWritten, Store
+from misteluk import Store
+from misteluk.errors import JournalFault, NotWritten
 from misteluk.journal.checking import check
 from misteluk.journal.wal import commits_lost
 
@@ -153,7 +154,7 @@ def made(here, there, in_wal):
     """Makes a file of 60 batches and two bases, the last ones in the -wal, or all in the database."""
     here.mkdir()
     with Store(here / "graph.db", sync="off") as store:
-        opened = store.engine._journal.opened
+        opened = store._engine._journal.opened
         opened.execute("PRAGMA wal_autocheckpoint=0")
         for number in range(1, 61):
             put(store, batch(number), producer="feed", sequence=number)

@@ -97,7 +97,7 @@ class Play:
             self.held.pop(self.random.randrange(len(self.held)))[0].close()
         elif chance < 0.75 and self.held and not self.orderly and not IS_SERVED:  # (a server alone does so)
             session, graph = self.random.choice(self.held)
-            self.store.rebase(session)
+            self.store.compact(session)
             self.now, self.held = graph.copy(), []
             if self.random.random() < 0.5:  # (a session of version 0, which has edges now)
                 self.held.append((self.store.open(), self.now.copy()))

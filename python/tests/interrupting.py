@@ -11,14 +11,14 @@ import sys
 import time
 import warnings
 
-from support import HERE
+from support import HERE, row
 
 import misteluk
-from misteluk import Store
+from misteluk import Degree, Store
 
 PACKAGE = f"{HERE.parent}/misteluk/"
 EDGES = {("l", "a", "b"): (5, 1, 1), ("l", "b", "c"): (7, 1, 1)}
-DEGREES = {"a": (1, 0, 5), "b": (1, 1, 7), "c": (0, 1, 0)}
+DEGREES = {"a": Degree(1, 0, 5), "b": Degree(1, 1, 7), "c": Degree(0, 1, 0)}
 # How many places of a call are tried, how many of those at its end, and how many may go wrong before a test ends.
 MOST_PLACES, AT_THE_END, MOST_WRONG = 30, 12, 50
 STEPS = {}
@@ -124,38 +124,38 @@ class Scene:
         store, session = self.store, self.session
         gc.collect()
         if not (rebased or closed):
-            assert session.edges(list(EDGES)) == list(EDGES.values()) and session.degrees() == DEGREES, "the session"
+            assert session.get_edges(list(EDGES)) == list(EDGES.values()) and session.degrees() == DEGREES, "the session"
         taken = 0 if rebased or closed else 1
         self.told.append(store.commit())
         assert (sum(it.updated for it in self.told), store.pending) == (3, 0), self.told
         others = [store.open() for _ in range(3 - taken)]
         try:
             store.open()
-        except misteluk.NoSeat:
+        except misteluk.errors.NoSeat:
             pass
         for it in others:
             assert it.edge("l", "a", "b") == (8, 1, 2) and it.edge("l", "b", "c") == (7, 1, 1), "the last version"
             it.close()
         stat, batches = store.stat(), sum(it.batches for it in self.told)
-        assert (stat.names, stat.edges, stat.version) == (3, 2, batches + (not rebased)), (stat, self.told)
+        assert (stat.vertices, stat.edges, stat.version) == (3, 2, batches + (not rebased)), (stat, self.told)
         assert self.told[-1].version == stat.version
 
     def rebase(self):
-        self.told.append(self.store.rebase(self.session))
+        self.told.append(self.store.compact(self.session))
 
     def was_rebased(self):
         """Whether the store begins with what the session held, which was told once: no second time, and no commit is lost that
         came between."""
         store, told, wanted = self.store, self.told, (0, 3, 2, 2)
         if not told and store.stat().version == 0:
-            assert (store.commit().version, store.rebase(self.session), store.stat().version) == (1, wanted, 1)
+            assert (store.commit().version, row(store.compact(self.session))[:4], store.stat().version) == (1, wanted, 1)
             assert store.open().edge("l", "a", "b") == (8, 1, 2)
             return
-        told = told or [store.rebase(self.session)]
+        told = told or [store.compact(self.session)]
         self.told = []
-        assert told == [wanted], told
+        assert [row(it)[:4] for it in told] == [wanted], told
         try:
-            store.rebase(self.session)
+            store.compact(self.session)
         except misteluk.SessionClosed:
             self.is_right(rebased=True)
             return
@@ -168,7 +168,7 @@ class Scene:
     def close(self):
         try:
             self.store.close()
-        except misteluk.Uncommitted as fault:
+        except misteluk.errors.Uncommitted as fault:
             self.lost.append(fault.operations)
 
     def leave(self):
@@ -183,14 +183,14 @@ class Scene:
         self.close()
         self.close()
         assert self.lost == [LOST] and self.store.is_closed, self.lost
-        desks, mine = self.store.engine.handles.desks, self.session.held.desk.raw
-        self.session.held.desk = None
+        desks, mine = self.store._engine.handles.desks, self.session._held.desk.raw
+        self.session._held.desk = None
         gc.collect()
-        self.store.engine.handles.give_back(self.store.engine.library)
+        self.store._engine.handles.give_back(self.store._engine.library)
         assert not any(it.raw is mine for it in desks._known), "the desk"
 
     def end(self):
-        self.store.kill()
+        self.store._kill()
 
 
 LOST, WARNED = ["a,l,a,b,1,2\n"] * 3, "3 operations were pending and are not applied"
@@ -211,18 +211,18 @@ CALLS = {
     "small batches": in_batches,
     "nothing": Scene.nothing_pending,
     "open": lambda it: it.store.open(),
-    "open a slot": lambda it: it.store.open(2),
+    "open a slot": lambda it: it.store._open(2),
     "stat": lambda it: it.store.stat(),
     "collect": lambda it: it.store.collect(),
-    "renew": lambda it: it.store.renew(),
+    "renew": lambda it: it.store.compact(),
     "edge": lambda it: it.session.edge("l", "b", "c"),
-    "edges": lambda it: it.session.edges([("l", "b", "c"), ("l", "a", "b")]),
+    "edges": lambda it: it.session.get_edges([("l", "b", "c"), ("l", "a", "b")]),
     "levels": lambda it: it.session.levels("a"),
     "components": lambda it: it.session.components(),
     "cores": lambda it: it.session.cores(),
     "degrees": lambda it: it.session.degrees(),
-    "into": lambda it: it.session.into("c"),
-    "out_of": lambda it: it.session.out_of("a"),
+    "into": lambda it: it.session.predecessors("c"),
+    "out_of": lambda it: it.session.successors("a"),
     "rebase": Scene.rebase,
     "close": lambda it: it.session.close(),
     "end": Scene.close,

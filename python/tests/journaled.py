@@ -79,7 +79,7 @@ def told(store):
     """What a store says of its last version, as a model does."""
     with store.open() as session:
         edges = {tuple(it[:3]): tuple(it[3]) for it in session.edges()}
-        return session.version, edges, list(session.held.names()), list(session.held.kinds())
+        return session.version, edges, list(session._held.names()), list(session._held.kinds())
 
 
 def ran(script):

@@ -58,7 +58,7 @@ class Model:
         self.commit()
         self.open()
         for session, edges in self.held:
-            assert session.edges(list(edges)) == list(edges.values())
+            assert session.get_edges(list(edges)) == list(edges.values())
 
     def edge(self):
         return "l", f"s{self.random.randrange(6)}", f"t{self.random.randrange(6)}"
@@ -163,21 +163,21 @@ class Model:
             self.held.append((self.store.open(), dict(self.edges)))
         session, edges = self.random.choice(self.held)
         self.commit()
-        found, interrupted = self.call(lambda: self.store.rebase(session), "rebase")
+        found, interrupted = self.call(lambda: self.store.compact(session), "rebase")
         if not interrupted or self.store.stat().version == 0:
             self.edges, self.version = dict(edges), 0
         if interrupted and self.version == 0:
             self.operate()
             self.commit()
         version = self.version
-        found = self.store.rebase(session) if interrupted else found
+        found = self.store.compact(session) if interrupted else found
         if version:
             assert self.store.stat().version in (0, version)
         if self.store.stat().version == 0:
             self.edges, self.version = dict(edges), 0
-        assert found[:3] == (0, session.names, len(edges)), found
+        assert (found.version, found.vertices, found.edges) == (0, session.vertex_count, len(edges)), found
         try:
-            self.store.rebase(session)
+            self.store.compact(session)
         except misteluk.SessionClosed:
             self.held = []
             return
@@ -218,12 +218,12 @@ class Model:
         if self.held:
             session, known = self.random.choice(self.held)
             edges = self.random.sample(sorted(known), min(3, len(known)))
-            found, interrupted = self.call(lambda: session.edges(edges), "edges")
+            found, interrupted = self.call(lambda: session.get_edges(edges), "edges")
             assert interrupted or found == [known[it] for it in edges], (found, known)
             for it in edges[:1]:
                 found, interrupted = self.call(lambda: session.edge(*it), "edge")
                 assert interrupted or found == known[it], (found, known)
-                found, interrupted = self.call(lambda: session.out_of(it[1]), "out_of")
+                found, interrupted = self.call(lambda: session.successors(it[1]), "out_of")
                 assert interrupted or found == {edge[2]: marks for edge, marks in known.items() if edge[1] == it[1]}, found
 
     def table(self):
@@ -239,7 +239,7 @@ class Model:
         assert interrupted or (stat.edges, stat.version) == (len(self.edges), self.version), (stat, self.version)
 
     def renew(self):
-        self.call(self.store.renew, "renew")
+        self.call(self.store.compact, "renew")
         self.count()
 
     def collect(self):
@@ -251,7 +251,7 @@ class Model:
         def close():
             try:
                 self.store.close()
-            except misteluk.Uncommitted as fault:
+            except misteluk.errors.Uncommitted as fault:
                 return fault.operations
             return []
         self.operate()
@@ -261,7 +261,7 @@ class Model:
         self.__dict__.update(store=Store(blocks=1024, seats=4), edges={}, pending=[], held=[], version=0)
 
     def end(self):
-        self.store.kill()
+        self.store._kill()
 
 
 if __name__ == "__main__":

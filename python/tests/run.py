@@ -10,7 +10,7 @@ import time
 from typing import Tuple
 
 from support import HERE, find_program, optional
-from misteluk import find_library
+from misteluk.engine.finding import find_library
 
 # What is said of a test that is of stores in process alone, and so isn't missed over those of a server.
 IN_PROCESS = r"\.\.\. skipped 'of stores in process alone'"

@@ -23,7 +23,8 @@ IS_REPOSITORY = (TOP / "tools").is_dir()
 NO_REPOSITORY = "this is no repository, but a released archive"
 sys.path.insert(0, str(HERE.parent))
 
-from misteluk import Store, find_program  # noqa: E402
+from misteluk import Store  # noqa: E402
+from misteluk.engine.finding import find_program  # noqa: E402
 from misteluk.command.main import main  # noqa: E402
 
 
@@ -38,6 +39,11 @@ def optional(name: str) -> Any:
         return __import__(name)
     except ImportError:
         return None
+
+
+def row(result: Any) -> Tuple[Any, ...]:
+    """The values of a result, in order."""
+    return tuple(vars(result).values())
 
 
 def words_of(script: bytes) -> Dict[int, str]:
@@ -79,7 +85,7 @@ class Case(unittest.TestCase):
 
     def kill(self, store: Store) -> None:
         """Ends a store: what a test plants may leave one that can't be closed. To be put in the place of `let_go`."""
-        store.kill()
+        store._kill()
 
     def feed(self, store: Store, *operations: str) -> None:
         for it in operations:

@@ -1,5 +1,6 @@
 """Answers beside networkx, on random graphs with kinds, windows, removals and sessions that are held; and whether such a
 comparison finds a difference that is planted."""
+from dataclasses import replace
 import random
 import unittest
 from unittest import mock
@@ -61,7 +62,8 @@ def differences(session: Session, model: Model, kind, since, until, source) -> l
         "edges": [Edge(it["weight"], it["first"], it["recent"]) if it else None for it in told]}
     window = (kind, since, until)
     found = {"levels": session.levels(source, *window), "components": session.components(*window),
-             "cores": session.cores(*window), "degrees": session.degrees(*window), "edges": session.edges(edges, missing=None)}
+             "cores": session.cores(*window), "degrees": session.degrees(*window), "edges": session.get_edges(edges,
+                                                                                                              missing=None)}
     return [it for it in wanted if found[it] != wanted[it]]
 
 
@@ -93,7 +95,7 @@ class Comparison(Case):
                 held.pop(slot)[0].close()
             copy = Model()
             copy.graph = model.graph.copy()
-            held[slot] = store.open(slot), copy
+            held[slot] = store._open(slot), copy
             for session, there in held.values():
                 asked = random_.choice([None, "k0", "k1"]), *sorted(random_.sample(range(-1, count + 1), 2))
                 asked = asked[0], max(0, asked[1]), asked[2]
@@ -120,8 +122,8 @@ class Comparison(Case):
         self.planted("levels", "levels", last_changed(lambda it: it + 1))
         self.planted("components", "components", last_changed(lambda it: it + "x"))
         self.planted("cores", "cores", last_changed(lambda it: it + 1))
-        self.planted("degrees", "degrees", last_changed(lambda it: it._replace(weight_out=it.weight_out + 1)))
-        self.planted("edges", "edges", lambda edges: [it and it._replace(first=it.first + 1) for it in edges])
+        self.planted("degrees", "degrees", last_changed(lambda it: replace(it, weight_out=it.weight_out + 1)))
+        self.planted("edges", "get_edges", lambda edges: [it and it._replace(first=it.first + 1) for it in edges])
 
     def test_a_window_that_is_one_too_wide_is_found(self):
         right = Session.degrees
@@ -133,7 +135,7 @@ class Comparison(Case):
         right = Session.levels
 
         def last(session, *asked):
-            free = session.store.open(2) if 2 not in session.store.engine._held else None
+            free = session.store._open(2) if 2 not in session.store._engine._held else None
             answer = right(free or session, *asked)
             if free:
                 free.close()

@@ -13,7 +13,7 @@ from unittest import mock
 from support import IN_PROCESS, IS_SERVED, Case, optional
 
 import misteluk
-from misteluk import Changed, Degree, Edge
+from misteluk import Changed, Degree, Edge, Units
 from misteluk.engine.calling import texts_of
 from misteluk.engine.protocol import Arrays
 from misteluk.values import fields
@@ -29,7 +29,7 @@ class Tables(Case):
             ("ulm", Degree(2, 0, 8))]))
         self.assertEqual([list(it.values) for it in degrees.columns.values()], [[2, 1, 0], [0, 1, 2], [8, 7, 0]])
         self.assertIsNone(degrees._rows)
-        self.assertEqual(degrees, {"ulm": (2, 0, 8), "kiel": (1, 1, 7), "bonn": (0, 2, 0)})
+        self.assertEqual(degrees, {"ulm": Degree(2, 0, 8), "kiel": Degree(1, 1, 7), "bonn": Degree(0, 2, 0)})
         self.assertIsNot(degrees.dict(), degrees.dict())
         self.assertEqual(json.loads(json.dumps(self.store(*ROADS).open().levels("ulm").dict())), {"ulm": 0, "kiel": 1, "bonn": 1})
 
@@ -41,7 +41,7 @@ class Tables(Case):
                          ([("kiel", 0), ("bonn", 1)], [0, 1], "{'kiel': 0, 'bonn': 1}"))
         self.assertRaises(KeyError, lambda: levels["ulm"])
         self.assertRaises(TypeError, hash, levels)
-        for it in (levels, self.store(*ROADS, weight_scale=10).open().degrees(), misteluk.Answer(a=1)):
+        for it in (levels, self.store(*ROADS, units=Units(weight_scale=10)).open().degrees(), misteluk.Answer(a=1)):
             copy = pickle.loads(pickle.dumps(it))
             self.assertEqual((copy, copy.version, copy.request, copy.value), (it, it.version, it.request, it.value))
 
@@ -56,7 +56,7 @@ class Tables(Case):
 
     @unittest.skipUnless(numpy and pandas, "numpy and pandas are not there")
     def test_arrays_and_frames(self):
-        session = self.store(*ROADS, weight_scale=10, decimals="float").open()
+        session = self.store(*ROADS, units=Units(weight_scale=10, decimals="float")).open()
         self.assertEqual({name: it.tolist() for name, it in session.degrees().numpy().items()},
                          {"out": [2, 1, 0], "into": [0, 1, 2], "weight_out": [80, 70, 0]})
         self.assertEqual(session.components().numpy()["label"].tolist(), ["ulm"] * 3)
@@ -83,9 +83,9 @@ class Shown(Case):
 
     def test_edges(self):
         few, many = (self.store(*(f"insert k v v{it:02} {it} 1" for it in range(count))).open() for count in (1, 61))
-        edges = many.edges_columns()
+        edges = many.edges()
         row = "('k', 'v', 'v00', Edge(weight=0, first=1, recent=1))"
-        self.assertEqual(repr(few.edges_columns()), f"<1 edge of 1 kind and 2 names: {row}>")
+        self.assertEqual(repr(few.edges()), f"<1 edge of 1 kind and 2 names: {row}>")
         self.assertEqual(repr(edges), f"<61 edges of 1 kind and 62 names: {', '.join([*map(repr, edges[:5]), '..'])}, "
                          f"{', '.join(map(repr, edges[-5:]))}>")
         self.assertEqual(repr(edges[:0]), "<0 edges of 1 kind and 62 names>")
@@ -93,7 +93,7 @@ class Shown(Case):
         self.assertEqual(repr(edges.weight[:2]), "ReadOnlyArray('q', [0, 1])")
         self.assertEqual([it.__array_interface__["version"] for it in (edges.weight, edges[:0].weight)], [3, 3])
         head = "".join(f"<td>{it}</td>" for it in ("kind", "source", "target", "weight", "first", "recent"))
-        self.assertEqual(few.edges_columns()._repr_html_(), f"<table><tr>{head}</tr><tr><td>k</td><td>v</td><td>v00</td>"
+        self.assertEqual(few.edges()._repr_html_(), f"<table><tr>{head}</tr><tr><td>k</td><td>v</td><td>v00</td>"
                          "<td>0</td><td>1</td><td>1</td></tr></table><p>1 edge of 1 kind and 2 names</p>")
         self.assertEqual(edges._repr_html_().count("<tr>"), 11)
 
@@ -111,7 +111,7 @@ class Shown(Case):
     def test_what_a_load_and_a_store_say(self):
         store = self.store()
         loaded = store.load(self.file("<a>.csv", "source,target\na,b\na,c\n"), by="set", progress=False)
-        self.assertIn("<table><caption>Stat</caption><tr><th>version</th><td>1</td></tr><tr><th>names</th><td>3</td></tr>",
+        self.assertIn("<table><caption>Stat</caption><tr><th>version</th><td>1</td></tr><tr><th>vertices</th><td>3</td></tr>",
                       store.stat()._repr_html_())
         told = loaded._repr_html_()
         for row in ("<caption>Loaded</caption>", "<th>rows</th><td>2</td>", "<th>inserted</th><td>2</td>", "&lt;a&gt;.csv</td>",
@@ -171,13 +171,13 @@ class NamesInOneText(Case):
             self.feed(store, *(f"insert k v{at} v{at + 1} 1 1" for at in range(first, last)))
             with self.subTest(last=last), store.open() as session:
                 names = [f"v{at}" for at in range(last + 1)]
-                self.assertEqual([(it, *row) for it, row in session.degrees().items()],
+                self.assertEqual([(it, degree.out, degree.into, degree.weight_out) for it, degree in session.degrees().items()],
                                  [(it, it != names[-1], it != names[0], it != names[-1]) for it in names])
 
 
 class EdgesOfAVersion(Case):
     def test_columns(self):
-        edges = self.store(*ROADS).open().edges_columns()
+        edges = self.store(*ROADS).open().edges()
         told = {tuple(it) for it in zip(map(edges.kinds.__getitem__, edges.kind), map(edges.names.__getitem__, edges.source),
                                         map(edges.names.__getitem__, edges.target), edges.weight, edges.first, edges.recent)}
         self.assertEqual(told, {("road", "ulm", "kiel", 5, 1, 1), ("road", "kiel", "bonn", 7, 2, 2),
@@ -193,8 +193,8 @@ class EdgesOfAVersion(Case):
         def of(end, name, window):
             return Counter(it for it in session.edges(**window) if it[end] == name)
         found = []
-        for name, window in product(session.edges_columns().names, ({}, {"kind": "k"}, {"since": 3}, {"kind": "l", "until": 5})):
-            for end, call in ((1, session.edges_out_of), (2, session.edges_into)):
+        for name, window in product(session.edges().names, ({}, {"kind": "k"}, {"since": 3}, {"kind": "l", "until": 5})):
+            for end, call in ((1, session.out_edges), (2, session.in_edges)):
                 told = list(call(name, **window))
                 kinds = [it[0] for it in told]
                 if Counter(told) != of(end, name, window) or len(set(kinds)) < sum(a != b for a, b in zip(kinds, [None, *kinds])):
@@ -215,29 +215,29 @@ class EdgesOfAVersion(Case):
             self.feed(store, *(f"insert {kinds[-1]} v{at} v{8 - at} 1 1" for at in range(9)), "insert l v0 v0 1 1")
             with self.subTest(many=many, kinds=kinds), mock.patch.object(fields, "MANY", many), store.open() as session:
                 self.assertEqual(self.differing(session), [])
-                apart = {it: Counter(session.edges_out_of(it)) for it in session.edges_columns().names}
+                apart = {it: Counter(session.out_edges(it)) for it in session.edges().names}
                 with store.open() as other:
-                    self.assertEqual({it: Counter(other.edges_out_of(it)) for it in apart}, apart)
+                    self.assertEqual({it: Counter(other.out_edges(it)) for it in apart}, apart)
 
     @unittest.skipUnless(numpy, "numpy is not there")
     @unittest.skipIf(IS_SERVED, IN_PROCESS)
     def test_edges_of_a_source_that_begin_elsewhere_are_found(self):
         rows = "insert k v1 v2 1 1", "insert k v2 v1 1 1", "insert l v1 v1 1 1"
         with mock.patch.object(fields, "MANY", 0), self.store(*rows).open() as session:
-            self.assertEqual((self.differing(session), list(session.held.kept.begins)), ([], [0, 2, 3]))
+            self.assertEqual((self.differing(session), list(session._held.kept.begins)), ([], [0, 2, 3]))
             for wrong in (array("I", (0, 1, 3)), array("I", (0, 2, 2)), array("I", (1, 2, 3))):
-                with mock.patch.object(session.held.kept, "begins", wrong):
+                with mock.patch.object(session._held.kept, "begins", wrong):
                     self.assertNotEqual(self.differing(session), [])
 
     def test_windows_and_kinds(self):
         session = self.store(*ROADS).open()
         for again in range(2):  # (the second time from what is kept)
-            self.assertEqual(sorted(it[:3] for it in session.edges_columns(since=2)), [
+            self.assertEqual(sorted(it[:3] for it in session.edges(since=2)), [
                 ("rail", "ulm", "bonn"), ("road", "kiel", "bonn")])
-            self.assertEqual([it[:3] for it in session.edges_columns("rail", until=2)], [])
-            self.assertEqual([it[:3] for it in session.edges_columns("rail")], [("rail", "ulm", "bonn")])
+            self.assertEqual([it[:3] for it in session.edges("rail", until=2)], [])
+            self.assertEqual([it[:3] for it in session.edges("rail")], [("rail", "ulm", "bonn")])
             self.assertEqual(len(list(session.edges())), 3)
-        self.assertRaises(misteluk.NoKind, session.edges_columns, "sea")
+        self.assertRaises(misteluk.errors.NoKind, session.edges, "sea")
 
     def test_a_path_s_edges(self):
         session = self.store(*ROADS, "insert road bonn trier 1 9").open()
@@ -261,7 +261,7 @@ class EdgesOfAVersion(Case):
         self.assertEqual(first.diff(last, "sea").counts(), {"gone": 0, "new": 1, "changed": 0})
         other = self.store(*ROADS[::-1]).open()  # (another store, with other numbers)
         self.assertFalse(first.diff(other))
-        self.assertRaisesRegex(ValueError, "other units", first.diff, self.store(weight_scale=10).open())
+        self.assertRaisesRegex(ValueError, "other units", first.diff, self.store(units=Units(weight_scale=10)).open())
 
     def test_a_difference_of_each_field(self):
         """An edge that differs in one field alone has changed, and nothing else did."""
@@ -282,7 +282,7 @@ class EdgesOfAVersion(Case):
         rows = (("a", 3, 1, 9), ("b", 7, 5, 8), ("c", 3, 5, 9), ("d", 7, 1, 9), ("e", -7, 5, 5), ("f", 3, 5, 9))
         session = self.store(*(f"insert k v {it} {weight} {time}" for it, weight, first, recent in rows
                                for time in (first, recent))).open()
-        edges = session.edges_columns()
+        edges = session.edges()
         self.assertEqual([it[2] for it in edges], list("abcdef"))
         for by, count, wanted in (("weight", 3, "bda"), ("weight", 6, "bdacfe"), ("weight", 9, "bdacfe"), ("weight", 0, ""),
                                   ("first", 3, "bce"), ("first", 6, "bcefad"), ("recent", 2, "ac"), ("recent", 5, "acdfb")):
@@ -308,20 +308,20 @@ class EdgesOfAVersion(Case):
                     diff = before.diff(after)
                     self.assertEqual({it[:3] for it in diff.gone}, set(old) - set(new))
                     self.assertEqual({it[:3] for it in diff.new}, set(new) - set(old))
-                    self.assertEqual({it[:3]: it[3:] for it in diff.changed},
+                    self.assertEqual({(it.kind, it.source, it.target): (it.before, it.after) for it in diff.changed},
                                      {it: (old[it], new[it]) for it in set(old) & set(new) if old[it] != new[it]})
 
     @unittest.skipUnless(numpy and pandas, "numpy and pandas are not there")
     def test_frames_of_dates(self):
         """They have dates as pandas does; where one is of a year that it hasn't, all of its column are objects."""
         for year, of_dates in ((2024, True), (9999, False)):
-            store = self.store(weight_scale=100, times="iso")
+            store = self.store(units=Units(weight_scale=100, times="iso"))
             days = [datetime(1970, 1, 1, tzinfo=timezone.utc), datetime(year, 3, 4, 12, 0, 0, 250_001, tzinfo=timezone.utc)]
             for day in days:
                 store.insert("road", "ulm", "kiel", "0.30", day)
             store.insert("rail", "kiel", "ulm", 7)
             store.commit()
-            frame = store.open().edges_frame()
+            frame = store.open().edges().frame()
             self.assertEqual(list(frame.columns), ["kind", "source", "target", "weight", "first", "recent"])
             self.assertEqual(list(zip(frame["kind"], frame["weight"])), [("road", Decimal("0.30")), ("rail", Decimal(7))])
             for column, dates in (("first", [days[0]] * 2), ("recent", [days[1], days[0]])):
@@ -336,7 +336,7 @@ class EdgesOfAVersion(Case):
         frame = first.diff(store.open()).frame()
         self.assertEqual(frame["state"].tolist(), ["gone", "changed"])
         self.assertEqual(frame["weight_before"].tolist(), [3, 7])
-        arrays = first.edges_columns().numpy()
+        arrays = first.edges().numpy()
         self.assertEqual((arrays["weight"].dtype.str, sorted(arrays["weight"].tolist())), ("<i8", [3, 5, 7]))
 
     @unittest.skipUnless(igraph, "igraph is not there")
@@ -350,7 +350,7 @@ class EdgesOfAVersion(Case):
     @unittest.skipUnless(scipy and numpy, "scipy is not there")
     def test_scipy(self):
         session = self.store(*ROADS, "insert rail ulm kiel 4 1").open()
-        matrix, names = session.to_scipy(), list(session.edges_columns().names)
+        matrix, names = session.to_scipy(), list(session.edges().names)
         self.assertEqual((matrix.shape, matrix[names.index("ulm"), names.index("kiel")], matrix.sum()), ((3, 3), 9, 19))
 
 

@@ -16,8 +16,8 @@ from misteluk import SessionClosed
 # Whose steps are those of a call, and for how many seconds threads ask.
 OURS, A_WHILE = ("/misteluk/engine/held.py", "/misteluk/serve/client.py", "/misteluk/session.py"), 2.0
 # The calls that keep what they were told, or go by what is kept.
-OF_ALL = "degrees", "edges_columns", "edges_into of a kind", "edges_out_of", "edges_into", "levels", "len"
-OF_OTHERS = ("edges_frame", "to_networkx", "to_igraph", "to_scipy", "view", "to_csv")
+OF_ALL = "degrees", "edges", "in_edges of a kind", "out_edges", "in_edges", "levels", "edge count"
+OF_OTHERS = ("a frame", "to_networkx", "to_igraph", "to_scipy", "view", "to_csv")
 CALLS = {name: (call, given) for name, call, given in calls("") if name not in OF_OTHERS}
 
 
@@ -76,7 +76,7 @@ class Meanwhile:
                 steps = AtStep(at, lambda: close(store, session), by_instruction)
                 said = self.said(lambda: steps.run(asked, name, session) == wanted[name])
                 session.close()
-                kept = getattr(session.held, "kept", None)
+                kept = getattr(session._held, "kept", None)
                 left = [it for it in getattr(kept, "__slots__", ()) if getattr(kept, it)]
                 if left or said not in (True, "closed"):
                     found.append((name, is_again, at, said, left))
@@ -130,7 +130,7 @@ class Closing(Meanwhile, Case):
             found = self.wrong(lambda: (store, store.open()), lambda store, session: session.close(), by_instruction,
                                step=7 if IS_SERVED else 1)
             self.assertEqual(found, [])
-        self.assertEqual(store.engine.open_count, 0)
+        self.assertEqual(store._engine.open_count, 0)
 
     @unittest.skipIf(IS_SERVED, IN_PROCESS)
     def test_a_store_is_closed_at_each_step(self):
@@ -153,12 +153,12 @@ class Closing(Meanwhile, Case):
     def test_a_closed_session_is_shown(self):
         """A notebook shows that it is closed, also where that comes while it asks."""
         session = self.store(*ROWS).open()
-        with mock.patch.object(type(session), "__len__", lambda it: it.close() or it.must_be_open()):
+        with mock.patch.object(type(session), "edge_count", property(lambda it: it.close() or it._must_be_open())):
             self.assertIn("<td>closed</td>", session._repr_html_())
 
 class OfServers(Meanwhile, ServeCase):
     def opened(self):
-        session = misteluk.connect(self.server.url)
+        session = misteluk.connect(self.server.url).open()
         return session.store, session
 
     def setUp(self):

@@ -9,14 +9,15 @@ from unittest import mock
 from support import Case, optional
 
 import misteluk
-from misteluk import Columns, survey
+from misteluk import Columns, Units, survey
 from misteluk.feeds import objects, surveys
 from misteluk.values import given, units
 
 numpy, pandas = optional("numpy"), optional("pandas")
 COLUMNS = Columns("source", "target", kind="kind", weight="weight", time="time")
-UNITS = ({}, {"weight_scale": 100}, {"weight_scale": 100, "rounding": "half-even"}, {"rounding": "half-even"},
-         {"weight_scale": 8}, {"times": "iso"}, {"weight_scale": 1000, "times": "iso", "rounding": "half-even"})
+UNITS = ({}, *({"units": it} for it in (
+    Units(100), Units(100, rounding="half-even"), Units(rounding="half-even"), Units(8), Units(times="iso"),
+    Units(1_000, "iso", rounding="half-even"))))
 ROWS, DAY = 60, timedelta(days=1)
 WORDS = ("ana", "bob", "c,d", "Ж ж", "x" * 65, "~~" + "A" * 20, "e f")
 MOMENTS = [datetime(1970, 1, 1), datetime(2024, 3, 5, 12, 30), datetime(2024, 3, 5, 23, 59, 59, 250_000), datetime(2100, 1, 1)]
@@ -153,7 +154,8 @@ def told(call):
         return f"{type(fault).__name__}: {fault}"
     rows = [row for part in found.parts for row in part.columns.rows()]
     faults = [(str(it), it.advice, it.place, it.fault) for it in found.faults]
-    return (rows, [line for part in found.parts for line in part.lines], found.rows, found.names, found.kinds, found.bad, faults,
+    return (rows, [line for part in found.parts for line in part.lines], found.rows, found.vertices, found.kinds, found.bad,
+            faults,
             found.fault_counts, found.last_bad, found.edges)
 
 
@@ -175,7 +177,7 @@ class Tables(Case):
         for seed in range(90):
             made = random.Random(seed)
             options = made.choice(UNITS)
-            data = table(made) if seed % 3 else right_table(made, "times" in options)
+            data = table(made) if seed % 3 else right_table(made, options.get("units", misteluk.Units()).has_dates)
             plain, fast = self.both(data, **options)
             self.assertEqual(fast, plain, (seed, options))
             counts["raised" if isinstance(plain[0], str) else "bad" if plain[0][5] else "right"] += 1
@@ -203,7 +205,7 @@ class Tables(Case):
                 elif strange:
                     dates[3] = numpy.datetime64(strange)
                 data = {"source": ["a"] * ROWS, "target": ["b"] * ROWS, "kind": ["k"] * ROWS, "weight": [1] * ROWS, "time": dates}
-                for options in ({}, {"times": "iso"}):
+                for options in ({}, {"units": Units(times="iso")}):
                     plain, fast = self.both(data, **options)
                     self.assertEqual(fast, plain, (unit, strange, options))
 
@@ -227,8 +229,8 @@ class Tables(Case):
                 "kind": ["k"] * count, "weight": numpy.arange(count) / 100,
                 "time": numpy.arange(count).astype("datetime64[s]")}
         with mock.patch.object(objects, "texts_of", lambda *it, real=objects.texts_of: (asked.append(len(it[0])), real(*it))[1]):
-            found = survey(data, by="add", columns=COLUMNS, weight_scale=100, times="iso", progress=False)
-        self.assertEqual((found.rows, found.bad, found.names, asked), (count, 0, 79, [9]))
+            found = survey(data, by="add", columns=COLUMNS, units=Units(weight_scale=100, times="iso"), progress=False)
+        self.assertEqual((found.rows, found.bad, found.vertices, asked), (count, 0, 79, [9]))
 
     def test_amounts_are_what_they_are_printed_as(self):
         """Each float that is taken at once has the parts that its text has; those near a half are rounded by it."""

@@ -174,7 +174,7 @@ class Differences(Case):
         yield some_edges(made, units, kinds=("l", "k")), some_edges(made, units, kinds=("k", "z", "l"), names=3)
         same = some_edges(made, units)
         yield same, same
-        yield same, same.some([it for it in range(len(same)) if made.random() < 0.8])
+        yield same, same.take([it for it in range(len(same)) if made.random() < 0.8])
         yield same, edges.Edges(same.kinds, same.names[::-1], units, same._columns)
         yield same, some_edges(made, units, 0, names=0, kinds=())
         yield some_edges(made, units, 0), same
@@ -206,7 +206,7 @@ class Differences(Case):
         rows = [array("I", [0, 0]), array("I", [0, 1]), array("I", [1, 0]), array("q", [1, 2]), array("Q", [0, 5]),
                 array("Q", [far, 6])]
         one = edges.Edges(("k",), ("a", "b"), UNITS[2], rows)
-        for earlier, later in ((one, one.some([1])), (one.some([0]), one), (one.some([1]), one)):
+        for earlier, later in ((one, one.take([1])), (one.take([0]), one), (one.take([1]), one)):
             found = diff.Diff(earlier, later)
             wanted = pandas.DataFrame(found._rows(slice(None), None), columns=diff.DIFF_HEADER)
             pandas.testing.assert_frame_equal(found.frame(), wanted)

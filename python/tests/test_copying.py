@@ -24,10 +24,10 @@ def answers_of(session, sources):
     for kind, window, ask in itertools.product((None, *KINDS, "no kind"), WINDOWS, asks):
         try:
             told.append(list(ask(kind=kind, **window).items()))
-        except (misteluk.NoKind, misteluk.NoVertex) as fault:
+        except (misteluk.errors.NoKind, misteluk.NoVertex) as fault:
             told.append(fault.word)
     edges = [(kind, source, target) for kind in (*KINDS, "no kind") for source in sources for target in sources]
-    return told + session.edges(edges, missing="no such name")
+    return told + session.get_edges(edges, missing="no such name")
 
 
 class Copies(Case):
@@ -50,10 +50,10 @@ class Copies(Case):
 
     def copied(self, content):
         store = self.store(blocks=2048)
-        store.ledger.terms.names.take(self.names)
+        store._ledger.terms.names.take(self.names)
         operations = operations_of(content)
         for at in range(0, len(operations.codes), 4):
-            store.ledger.apply(Operations(columns=operations.some(slice(at, at + 4))), True)
+            store._ledger.apply(Operations(columns=operations.some(slice(at, at + 4))), True)
         return store.open()
 
     def differ(self, seed):
@@ -61,8 +61,8 @@ class Copies(Case):
         sessions, names = self.grown(seed)
         count = 0
         for it in sessions:
-            self.names = it.store.ledger.terms.names
-            content = content_of(it.held)
+            self.names = it.store._ledger.terms.names
+            content = content_of(it._held)
             copy = self.copied(content)
             count += answers_of(it, [*names, "nobody"]) != answers_of(copy, [*names, "nobody"])
             self.assertLessEqual(len(operations_of(content).codes),
@@ -86,7 +86,7 @@ class Copies(Case):
 
     def test_names_without_edges_fall_away(self):
         store = self.store("insert road a b 1 1", "insert rail c d 2 2", "insert road d b 3 3", "remove rail c d")
-        content = content_of(store.open().held)
+        content = content_of(store.open()._held)
         edges = [[0, 0], [0, 3], [1, 1], [1, 3], [1, 3], [1, 3]]
         self.assertEqual((content.kinds, content.names, [it.tolist() for it in content.edges]),
                          (["road", "rail"], ["a", "b", "c", "d"], edges))

@@ -10,7 +10,7 @@ from support import Case, optional
 from serving import ServeCase
 
 import misteluk
-from misteluk import Columns, Store
+from misteluk import Columns, Store, Units
 from misteluk.values import dates, fields
 
 SECOND, DAY = 10 ** 6, 86_400 * 10 ** 6
@@ -90,11 +90,11 @@ MOMENTS = [(moment(text), wanted) for text, wanted in DATES if len(text) > 18 an
 
 class Dates(Case):
     def dated(self, **options) -> Store:
-        return self.store(times="iso", **options)
+        return self.store(units=Units(times="iso"), **options)
 
     def must_be(self, wanted: int, store: Store, told: object) -> None:
         with store.open() as session:
-            self.assertEqual(session.edges_columns().recent.tolist(), [wanted], told)
+            self.assertEqual(session.edges().recent.tolist(), [wanted], told)
 
     def must_take(self, way, values=DATES) -> None:
         """Whether a way in takes each of the values as its microseconds."""
@@ -108,9 +108,9 @@ class Dates(Case):
     def must_refuse(self, way, values=REFUSED) -> None:
         for value in values:
             store = self.dated()
-            with self.assertRaises((misteluk.BadTime, misteluk.BadRows), msg=repr(value)) as told:
+            with self.assertRaises((misteluk.errors.BadTime, misteluk.BadRows), msg=repr(value)) as told:
                 way(store, value)
-            word = r"^BadTime" if isinstance(told.exception, misteluk.BadTime) else r"BadTime: time"
+            word = r"^BadTime" if isinstance(told.exception, misteluk.errors.BadTime) else r"BadTime: time"
             self.assertRegex(str(told.exception), word)
             self.assertEqual((store.pending, store.stat().edges), (0, 0), value)
 
@@ -144,7 +144,7 @@ class Dates(Case):
             store = self.dated()
             store.load([("a", "b", 1, "2024-03-05"), ("a", "c", 1, text), ("a", "d", 1, "2024-03-05T10:30:05")], by="add")
             with store.open() as session:
-                self.assertEqual(sorted(session.edges_columns().recent.tolist()), sorted([FIFTH, wanted, MORNING]), text)
+                self.assertEqual(sorted(session.edges().recent.tolist()), sorted([FIFTH, wanted, MORNING]), text)
 
     def test_files(self):
         def load(store, text):
@@ -228,12 +228,12 @@ class Dates(Case):
                 store.add("k", "a", name, 1, datetime(1970, 1, 1) + timedelta(microseconds=time))
             store.commit()
             session = store.open()
-            self.assertEqual(sorted(session.out_of("a", until=said)), ["in"], said)
+            self.assertEqual(sorted(session.successors("a", until=said)), ["in"], said)
             begin = said if "datetime" in type(said).__name__ or "T" in str(said) else None
             if begin is not None and end in (FIFTH, MORNING - 18_000 * SECOND):
-                self.assertEqual(len(session.out_of("a", since=begin)), 2, said)
+                self.assertEqual(len(session.successors("a", since=begin)), 2, said)
         for wrong in ("20240305", "2024-W10", "2024-03-05T10", datetime(1969, 12, 31)):
-            self.assertRaisesRegex(misteluk.BadTime, "until '", session.degrees, until=wrong)
+            self.assertRaisesRegex(misteluk.errors.BadTime, "until '", session.degrees, until=wrong)
 
 
 class Posts(ServeCase):
@@ -244,11 +244,11 @@ class Posts(ServeCase):
 
     def test_dates(self):
         for way in ("json", "csv"):
-            store = self.serve(times="iso").store
+            store = self.serve(units=Units(times="iso")).store
             for at, (text, wanted) in enumerate(DATES):
                 self.assertEqual(self.way(way, f"t{at}", text).status, 200, text)
                 with store.open() as session:
-                    self.assertEqual(session.edges_columns().recent.tolist()[-1], wanted, text)
+                    self.assertEqual(session.edges().recent.tolist()[-1], wanted, text)
             for text in REFUSED:
                 told = self.way(way, "b", text)
                 self.assertEqual((told.status, told.json["error"]), (400, "BadTime"), text)
@@ -256,7 +256,7 @@ class Posts(ServeCase):
 
     def test_a_zone_in_an_address(self):
         """There + is a space, so that a zone would be a time of day."""
-        self.serve(times="iso")
+        self.serve(units=Units(times="iso"))
         self.post("/v1/rows", {"rows": [["add", "k", "a", "b", 1, "2024-03-05T02:00"]]})
         for until, edges in (("2024-03-05T10:30%2B05:00", 1), ("2024-03-05%2B05:00", 1), ("2024-03-05+01%3A00", 0),
                              ("2024-03-04%2B01:00", 0)):

@@ -6,10 +6,10 @@ import threading
 import unittest
 from unittest import mock
 
-from support import HERE, Case
+from support import Case, HERE, row
 
 import misteluk
-from misteluk import Limits, Edge, Store
+from misteluk import Edge, Limits, Store
 from misteluk.engine import library
 from misteluk.values import limits
 
@@ -18,25 +18,24 @@ class Endless(Case):
     def test_it_goes_on(self):
         """Versions count on, sessions hold theirs, and what was pending is applied once."""
         store = self.store("add road ulm kiel 5 1", endless=True)
-        session, renewed = store.open(), store.renew()
-        self.assertEqual(renewed[:3], (1, 2, 1))
+        session, renewed = store.open(), store.compact()
+        self.assertEqual(row(renewed)[:4], (1, 2, 1, 1))
         store.add("road", "kiel", "bonn", 7, time=2)
-        self.assertEqual((store.commit().version, session.version, len(session)), (2, 1, 1))
+        self.assertEqual((store.commit().version, session.version, session.edge_count), (2, 1, 1))
         self.assertEqual(store.open().edge("road", "ulm", "kiel"), Edge(5, 1, 1))
-        self.assertEqual(session.into("kiel"), {"ulm": Edge(5, 1, 1)})
-        self.assertRaises(misteluk.NoVertex, session.into, "bonn")
-        self.assertEqual(store.renewals, [renewed])
+        self.assertEqual(session.predecessors("kiel"), {"ulm": Edge(5, 1, 1)})
+        self.assertRaises(misteluk.NoVertex, session.predecessors, "bonn")
 
     def test_numbers_stay(self):
         """A store that begins anew has the same names by the same numbers, also of those that have no edge any more."""
         store = self.store(*(f"insert k a{it} b{it} 1 1" for it in range(40)), "remove k a3 b3")
         before = store.open()
-        store.renew()
+        store.compact()
         self.feed(store, "insert k new a7 1 1")
         after = store.open()
-        names = before.edges_columns().names
+        names = before.edges().names
         self.assertEqual(len(names), 80)
-        self.assertEqual(list(after.edges_columns().names), [*names, "new"])
+        self.assertEqual(list(after.edges().names), [*names, "new"])
         self.assertEqual(sorted(before.edges()), sorted(it for it in after.edges() if it[1] != "new"))
 
     def test_held_versions_and_few_blocks(self):
@@ -58,7 +57,7 @@ class Endless(Case):
         held = store.open()
         for it in range(3):
             store.insert("k", f"s{it}", "t", 2)
-        with self.assertRaises(misteluk.PoolEmpty) as told:
+        with self.assertRaises(misteluk.errors.PoolEmpty) as told:
             store.commit()
         self.assertEqual((told.exception.needed, told.exception.free, store.pending), (3, 2, 3))
         self.assertEqual(store.commit(batch=2).batches, 2)
@@ -77,25 +76,25 @@ class Endless(Case):
         """Where there would be too many names an endless store lets those go that have no edge; another refuses the batch."""
         store = self.full(endless=False)
         store.insert("link", "one", "more")
-        self.assertRaises(misteluk.NamesFull, store.commit)
+        self.assertRaises(misteluk.errors.NamesFull, store.commit)
         self.assertEqual(store.discard(), 1)
         store = self.full(endless=True)
         held, version = store.open(), store.stat().version
         store.insert("link", "one", "more")
-        self.assertEqual(store.commit()[:2], (version + 1, 1))
-        self.assertEqual(store.stat()[1:3], (65536 - 200 + 2, 32768 - 100 + 1))
-        self.assertIn("v0", held)
-        self.assertNotIn("v0", store.open())
+        self.assertEqual(row(store.commit())[:2], (version + 1, 1))
+        self.assertEqual(row(store.stat())[1:3], (65536 - 200 + 2, 32768 - 100 + 1))
+        self.assertTrue(held.has_vertex("v0"))
+        self.assertFalse(store.open().has_vertex("v0"))
 
     def test_many_batches(self):
         """A desk takes 65,536 batches; here it says so of the fifth."""
         store = self.store()
-        real, said = store.engine.library.desk_apply, []
+        real, said = store._engine.library.desk_apply, []
 
         def full(*given):
             said.append(1)
             return library.Code.BATCHES_FULL if len(said) == 5 else real(*given)
-        with mock.patch.object(store.engine.library, "desk_apply", full):
+        with mock.patch.object(store._engine.library, "desk_apply", full):
             for at in range(9):
                 store.insert("k", "a", f"b{at}")
                 self.assertEqual(store.commit().version, at + 1)
@@ -106,7 +105,7 @@ class Endless(Case):
         old = store.open()
         self.feed(store, "insert k b c 2 2", "remove k a b")
         store.insert("k", "x", "y")
-        self.assertEqual(store.rebase(old), (0, 2, 1, 1))
+        self.assertEqual(row(store.compact(old))[:4], (0, 2, 1, 1))
         self.assertEqual((store.pending, store.commit().version), (1, 1))
         self.assertEqual(sorted(store.open().edges()), [("k", "a", "b", Edge(1, 1, 1)), ("k", "x", "y", Edge(1, 0, 0))])
         self.assertRaises(misteluk.SessionClosed, old.degrees)
@@ -119,7 +118,7 @@ class Endless(Case):
         old = store.open()
         edges = list(old.edges())
         self.feed(store, "remove k a b0")
-        self.assertEqual(store.rebase(old), (0, 41, 40, 2))
+        self.assertEqual(row(store.compact(old))[:4], (0, 41, 40, 2))
         self.assertEqual(list(store.open().edges()), edges)
 
     def test_idle_names_of_more_edges_than_blocks(self):
@@ -127,12 +126,12 @@ class Endless(Case):
         for at in range(200):
             store.insert("k", "hub", f"t{at}")
         store.commit(batch=32)
-        real, said = store.engine.library.desk_apply, []
+        real, said = store._engine.library.desk_apply, []
 
         def full(*given):
             said.append(1)
             return library.Code.NAMES_FULL if len(said) == 1 else real(*given)
-        with mock.patch.object(store.engine.library, "desk_apply", full):
+        with mock.patch.object(store._engine.library, "desk_apply", full):
             self.feed(store, "insert k hub more 1 1")
         self.assertEqual((store.stat().version, store.stat().edges), (8, 201))
 
@@ -144,9 +143,9 @@ class Endless(Case):
         old = store.open()
         edges = list(old.edges())
         store.commit()
-        with self.assertRaisesRegex(misteluk.PoolEmpty, "version 5 finds no room in 16 blocks, and nothing was changed"):
-            store.rebase(old)
-        self.assertEqual((store.stat()[:3], store.stat().free, list(old.edges())), ((6, 17, 17), 0, edges))
+        with self.assertRaisesRegex(misteluk.errors.PoolEmpty, "version 5 finds no room in 16 blocks, and nothing was changed"):
+            store.compact(old)
+        self.assertEqual((row(store.stat())[:3], store.stat().free, list(old.edges())), ((6, 17, 17), 0, edges))
         self.assertEqual(list(store.open().edges()), edges)
 
 
@@ -160,24 +159,24 @@ class Level(Case):
             for it in range(10):
                 store.add("k", f"s{(at + it) % edges}", "t", 1, at)
             versions.append(store.commit().version)
-            kept.append(store.operations_kept)
+            kept.append(store._engine.operations_kept)
         return versions, kept
 
     def test_none_is_kept(self):
         """It has no operation to let go, and so doesn't begin anew."""
         store, most = self.store("add k s0 t 1 1"), 4_294_967_295
-        with mock.patch.object(store.engine.library, "desk_rebase", lambda _: self.fail("it began anew")):
+        with mock.patch.object(store._engine.library, "desk_rebase", lambda _: self.fail("it began anew")):
             versions, kept = self.fill(store)
         self.assertEqual((versions, max(kept)), (list(range(2, 102)), 0))
         for batches, kept in ((most - 1, 1001), (most, 0)):
             other = self.store("add k s0 t 1 1", limits=Limits(batches=batches))
-            self.assertEqual((self.fill(other)[0], other.operations_kept), (versions, kept))
+            self.assertEqual((self.fill(other)[0], other._engine.operations_kept), (versions, kept))
             self.assertEqual(list(store.open().edges()), list(other.open().edges()))
 
     def test_none_is_kept_however_it_begins_anew(self):
         """As where it grows, or is rebased to an older version."""
         def limit():
-            return store.engine._opening.shape.batches, store.operations_kept
+            return store._engine._opening.shape.batches, store._engine.operations_kept
         with mock.patch.object(library, "FIRST_BLOCKS", 32):
             store, none = self.store("insert k a b 1 1"), (4_294_967_295, 0)
         self.assertEqual(limit(), none)
@@ -187,10 +186,10 @@ class Level(Case):
         store.commit()
         self.assertEqual((store.blocks, limit()), (128, none))
         self.feed(store, *(f"insert k{it} a b 1 1" for it in range(10)))
-        self.assertEqual((store.engine._opening.shape.kinds, limit()), (16, none))
-        store.renew()
+        self.assertEqual((store._engine._opening.shape.kinds, limit()), (16, none))
+        store.compact()
         self.assertEqual(limit(), none)
-        store.rebase(old)
+        store.compact(old)
         self.assertEqual((list(store.open().edges()), limit()), ([("k", "a", "b", Edge(1, 1, 1))], none))
 
     def test_few_are_kept(self):
@@ -208,8 +207,8 @@ class Level(Case):
         """Then the batch is pending still, and the next commit tries it again."""
         store = self.store("add k s0 t 1 1", limits=Limits(batches=1))
         store.add("k", "s0", "t", 1, 2)
-        with mock.patch.object(store.engine.library, "desk_rebase", lambda _: library.Code.MEMORY):
-            self.assertRaises(misteluk.NoMemory, store.commit)
+        with mock.patch.object(store._engine.library, "desk_rebase", lambda _: library.Code.MEMORY):
+            self.assertRaises(misteluk.errors.NoMemory, store.commit)
         self.assertEqual((store.pending, store.stat().version, store.commit().version), (1, 1, 2))
         self.assertEqual(store.open().edge("k", "s0", "t"), Edge(2, 1, 2))
 
@@ -242,7 +241,7 @@ class Level(Case):
     def test_questions_go_on_meanwhile(self):
         """A session answers while the store begins anew, which here waits for that."""
         store = self.store("add k s0 t 1 1", limits=Limits(batches=1))
-        session, real, found = store.open(), store.engine.library.desk_rebase, []
+        session, real, found = store.open(), store._engine.library.desk_rebase, []
         begun, answered = threading.Event(), threading.Event()
 
         def ask():
@@ -256,7 +255,7 @@ class Level(Case):
             return real(desk)
         thread = threading.Thread(target=ask)
         thread.start()
-        with mock.patch.object(store.engine.library, "desk_rebase", slow):
+        with mock.patch.object(store._engine.library, "desk_rebase", slow):
             self.assertEqual(self.fill(store, 1), ([2], [10]))
         thread.join()
         self.assertEqual(found, [(Edge(1, 1, 1), {"s0": 0, "t": 1}), True])
@@ -268,7 +267,7 @@ class Level(Case):
         self.fill(store, 5)
         sessions.append(store.open())
         self.fill(store, 5)
-        self.assertRaises(misteluk.NoSeat, store.open)
+        self.assertRaises(misteluk.errors.NoSeat, store.open)
         sessions.pop(0).close()
         self.assertEqual(store.open().version, 10)
 
@@ -286,7 +285,7 @@ class Crowded(Case):
             for at in range(200):
                 self.feed(store, f"insert k s{at} t 1 1", f"remove k s{at} t")
         self.assertEqual((store.stat().version, store.stat().edges), (216, 16))
-        self.assertLess(store.stat().names, 101)
+        self.assertLess(store.stat().vertices, 101)
         self.assertEqual([len(list(it.edges())) for it in sessions], list(range(1, 17)))
 
     def test_names_and_blocks(self):
@@ -299,7 +298,7 @@ class Crowded(Case):
             for at in range(90, 180):
                 store.insert("k", f"s{at}", "t")
             self.assertEqual(store.commit().inserted, 90)
-        self.assertEqual((store.stat()[:3], store.blocks), ((2, 181, 180), 512))
+        self.assertEqual((row(store.stat())[:3], store.blocks), ((2, 181, 180), 512))
 
 
 if __name__ == "__main__":

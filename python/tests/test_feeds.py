@@ -12,7 +12,10 @@ from unittest import mock
 from support import Case, optional
 
 import misteluk
-from misteluk import Columns, Edge, Feed
+from misteluk import Columns, Commit, Edge
+from misteluk.feeds.delimited import delimited
+from misteluk.feeds.opening import open_feed
+from misteluk.feeds.feed import Feed
 from misteluk.feeds import feed as feeds, loading
 from misteluk.values import records
 from misteluk.values.units import Units
@@ -24,13 +27,13 @@ OF_TRANSFERS = Columns("from", "to", None, "amount", "when", "transfer")
 class Feeds(Case):
     def rows(self, wanted: str, name: str, text: str, **options) -> None:
         """Whether the file has these rows: a line each, its fields parted by a space."""
-        feed = misteluk.open_feed(self.file(name, text), **options)
+        feed = open_feed(self.file(name, text), **options)
         self.assertEqual("\n".join(" ".join(map(str, it)) for it in feed.rows), wanted)
 
     def test_delimited(self):
         self.rows("2 transfer ana funnel 980 1\n3 transfer ben funnel 950 1\n4 transfer ana funnel 20 5", "a.csv", TRANSFERS,
                   columns=OF_TRANSFERS)
-        self.rows("2 k a b 1 0", "a.tsv", "\ufeffx\ty\nb\ta\n", columns=Columns("y", "x", usual_kind="k"))
+        self.rows("2 k a b 1 0", "a.tsv", "\ufeffx\ty\nb\ta\n", columns=Columns("y", "x", default_kind="k"))
         self.rows("1 a b c 7 9\n3 d e f 8 9", "a.txt", "b;c;a;7;9\n\ne;f;d;8;9\n", columns=Columns(1, 2, 3, 4, 5))
         self.rows('1 link a,b c 1 0', "a", '"a,b",c\n', columns=Columns(1, 2))
         self.rows("2 link b c 1 0", "b", "a|b\nb|c\n", columns=Columns(1, 2), header=True)
@@ -63,7 +66,7 @@ class Feeds(Case):
             wanted = [(line, "link", *row[:2], "1", "0") for line, *row in self.read_row_by_row(path, sign, 2)]
             for size in (1, 2, 3, 1_024):
                 with mock.patch.object(feeds, "ROWS_AT_ONCE", size):
-                    feed = misteluk.delimited(path, Columns(1, 2), delimiter=sign)
+                    feed = delimited(path, Columns(1, 2), delimiter=sign)
                     self.assertEqual(list(feed.rows), wanted)
 
     def file_as_it_is(self, text: str) -> str:
@@ -73,7 +76,7 @@ class Feeds(Case):
     def test_snap(self):
         self.rows("3 link 0 11 1 0\n4 link 0 12 1 0", "a.txt", "# Directed graph\n# FromNodeId\tToNodeId\n0\t11\n0 12\n")
         self.rows("1 msg 1 2 1 1082040961", "b", "1 2 1082040961\n", format="snap", third="time",
-                  columns=Columns(usual_kind="msg"))
+                  columns=Columns(default_kind="msg"))
         self.rows("1 link 1 2 5 0", "c", "1 2 5\n", format="snap", third="weight")
 
     def test_matrix_market(self):
@@ -85,7 +88,7 @@ class Feeds(Case):
     def test_gzip(self):
         path = self.room / "a.csv.gz"
         path.write_bytes(gzip.compress(TRANSFERS.encode()))
-        self.assertEqual(len(list(misteluk.open_feed(str(path), columns=OF_TRANSFERS).rows)), 3)
+        self.assertEqual(len(list(open_feed(str(path), columns=OF_TRANSFERS).rows)), 3)
 
     def test_names_with_escapes(self):
         feed = Feed("f", [(1, "k", "A b", "50%", "1", "0"), (2, "k", "é", "*", "1", "0")])
@@ -103,8 +106,8 @@ class Feeds(Case):
                 self.assertEqual(Units(times="iso").time_to_program(text), "86400000000")
 
     def fault(self, told: str, name: str, text: str, **options) -> None:
-        with self.assertRaises(misteluk.FeedFault) as fault:
-            list(misteluk.open_feed(self.file(name, text), **options).rows)
+        with self.assertRaises(misteluk.errors.FeedFault) as fault:
+            list(open_feed(self.file(name, text), **options).rows)
         self.assertIn(told, str(fault.exception))
 
     def test_files_of_another_form(self):
@@ -121,7 +124,7 @@ class Feeds(Case):
     def test_a_delimiter_is_one_sign(self):
         path = self.file("a.csv", "a;b\n")
         for it in ("xx", "\\t", "\n", '"'):
-            for call in (lambda: misteluk.open_feed(path, columns=Columns(1, 2), delimiter=it),
+            for call in (lambda: open_feed(path, columns=Columns(1, 2), delimiter=it),
                          lambda: self.store().follow(path, by="set", columns=Columns(1, 2), delimiter=it, until_end=True)):
                 with self.assertRaisesRegex(ValueError, "delimiter is one sign, as ; or a tab") as fault:
                     call()
@@ -140,7 +143,7 @@ class Loads(Case):
         for by, weight in (("set", 20), ("add", 1000)):
             store = self.store()
             loaded = store.load(path, by=by, columns=OF_TRANSFERS)
-            self.assertEqual(loaded.commit, (1, 2, 1, 0, 0, 0, 1, 0))
+            self.assertEqual(loaded.commit, Commit(1, 2, 1, 0, 0, 0, 1, 0))
             self.assertEqual(store.open().edge("transfer", "ana", "funnel"), Edge(weight, 1, 5))
         with self.assertRaisesRegex(ValueError, "by is 'set'"):
             store.load(path, by="sum")
@@ -152,7 +155,7 @@ class Loads(Case):
         """Whether rows `source target`, parted by commas, are counted so: names, edges, blocks, blocks needed."""
         feed = Feed("f", [(at, "k", *it.split(), "1", "0") for at, it in enumerate(rows.split(","), 1)])
         found = misteluk.survey(feed, by="add", batch=batch)
-        self.assertEqual(f"{found.names} {found.edges} {found.blocks} {found.needed}", wanted)
+        self.assertEqual(f"{found.vertices} {found.edges} {found.blocks} {found.needed}", wanted)
 
     def test_what_is_counted(self):
         self.counted("2 1 1 2", "a b,a b")
@@ -195,8 +198,9 @@ class Loads(Case):
         found = misteluk.survey(Feed("f", feed), by="add", batch=20)
         store = self.store(blocks=found.needed)
         store.load(found, by="add")
-        self.assertEqual((store.stat().used, store.stat().edges, store.stat().names), (found.blocks, found.edges, found.names))
-        with self.assertRaisesRegex(misteluk.PoolEmpty, f"needs at least {found.needed} blocks in batches of 20") as told:
+        self.assertEqual((store.stat().used, store.stat().edges, store.stat().vertices),
+                         (found.blocks, found.edges, found.vertices))
+        with self.assertRaisesRegex(misteluk.errors.PoolEmpty, f"needs at least {found.needed} blocks in batches of 20") as told:
             self.store(blocks=found.needed - 1).load(found, by="add")
         self.assertEqual(told.exception.needed, found.needed)
 
@@ -247,7 +251,7 @@ class Loads(Case):
 
     def over(self, told: str, rows: list, **options) -> None:
         store = self.store()
-        with self.assertRaises(misteluk.OverLimit) as fault:
+        with self.assertRaises(misteluk.errors.OverLimit) as fault:
             store.load(Feed("f", rows), by="set", **options)
         self.assertIn(told, str(fault.exception))
         self.assertEqual(store.stat().version, 0)
@@ -255,7 +259,7 @@ class Loads(Case):
     def test_blocks_in_use_are_counted_before_anything_is_sent(self):
         store = self.store(*(f"insert k s{it} t 1 1" for it in range(10)), blocks=16)
         told = "needs at least 17 blocks in batches of 7, and the store was made with 16"
-        with self.assertRaisesRegex(misteluk.PoolEmpty, told):
+        with self.assertRaisesRegex(misteluk.errors.PoolEmpty, told):
             store.load(Feed("f", [(1, "k", "s1", "t", "1", "0")] * 7), by="add")
         self.assertEqual(store.stat().version, 1)
         self.assertEqual(store.load(Feed("f", [(1, "k", "s1", "t", "1", "0")] * 6), by="add").commit.version, 2)
@@ -263,7 +267,7 @@ class Loads(Case):
     def test_pending_operations_are_not_mixed_in(self):
         store = self.store()
         store.insert("k", "a", "b")
-        with self.assertRaisesRegex(misteluk.Uncommitted, "1 operations are pending"):
+        with self.assertRaisesRegex(misteluk.errors.Uncommitted, "1 operations are pending"):
             store.load(Feed("f", []), by="set")
         store.discard()
         self.assertIsNone(store.load(Feed("f", []), by="set").commit)
@@ -271,7 +275,7 @@ class Loads(Case):
     def test_steps(self):
         store, seen = self.store(), []
         found = misteluk.survey(Feed("f", [(it, "k", "a", "b", "1", str(it)) for it in range(6)]), by="add", batch=2)
-        for receipt in misteluk.load_in_steps(store, found):
+        for receipt in store.load_in_steps(found):
             with store.open() as session:
                 seen.append((receipt.version, session.edge("k", "a", "b")))
         self.assertEqual(seen, [(1, Edge(2, 0, 1)), (2, Edge(4, 0, 3)), (3, Edge(6, 0, 5))])
@@ -295,7 +299,7 @@ class Loads(Case):
 class Absent(Case):
     def test_pandas_is_named_where_it_is_missing(self):
         with mock.patch.dict("sys.modules", {"pandas": None}):
-            with self.assertRaisesRegex(misteluk.Missing, "apt-get install python3-pandas"):
+            with self.assertRaisesRegex(misteluk.errors.Missing, "apt-get install python3-pandas"):
                 self.store().open().cores().frame()
 
 

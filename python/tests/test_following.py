@@ -13,7 +13,7 @@ from interrupting import handler, interrupt_in_a_call, made_at_once, places
 from support import Case, as_soon_as
 
 import misteluk
-from misteluk import Columns, Store
+from misteluk import Columns, Store, Units
 from misteluk.feeds import calls, following, growing
 
 COLUMNS = Columns(1, 2, weight=3, time=4)
@@ -82,7 +82,7 @@ class Following(Case):
         model.go_to(step.rows)
         with followed.store.open() as session:
             self.assertEqual(step.commit.version, session.version)
-            self.assertEqual(session.edges([(KIND, *it) for it in model.edges]), list(model.edges.values()))
+            self.assertEqual(session.get_edges([(KIND, *it) for it in model.edges]), list(model.edges.values()))
         self.assertEqual((followed.store.stat().edges, step.newest), (len(model.edges), model.newest))
         self.assertEqual(step.commit.expired, model.expired)
 
@@ -198,8 +198,8 @@ class Following(Case):
         store, rows = self.store(blocks=16), [("a", "b", 1, 100), *((f"s{it}", f"t{it}", 1, 5) for it in range(16))]
         followed = self.follow(self.file("late.csv", text_of(rows)), store, keep=10, batch=20, until_end=True)
         for _ in range(2):
-            self.assertRaises(misteluk.PoolEmpty, next, followed)
-            self.assertEqual((store.pending, store.ledger.told_pending.count("x,90\n")), (18, 1))
+            self.assertRaises(misteluk.errors.PoolEmpty, next, followed)
+            self.assertEqual((store.pending, store._ledger.told_pending.count("x,90\n")), (18, 1))
 
     def test_batches_are_full(self):
         path = self.file("full.csv", text_of(some_rows(10_000)))
@@ -210,7 +210,7 @@ class Following(Case):
 
     def test_dates(self):
         path = self.file("dates.csv", "a;b;1,50;01.03.2024\na;c;2,00;02.03.2024 12:00:00\nc;d;1;16.03.2024\n")
-        (step,) = self.follow(path, until_end=True, keep="14d", weight_scale=100, dates="dd.mm.yyyy", decimal=",", delimiter=";")
+        (step,) = self.follow(path, until_end=True, keep="14d", units=Units(100), dates="dd.mm.yyyy", decimal=",", delimiter=";")
         self.assertEqual((step.commit.expired, str(step.newest)), (1, "2024-03-16 00:00:00+00:00"))
 
     def test_a_slow_feed(self):
@@ -262,24 +262,25 @@ class Following(Case):
         store = self.store(blocks=16)
         rows = [(f"s{it}", f"t{it}", 1, it) for it in range(30)]
         followed = self.follow(self.file("pool.csv", text_of(rows)), store, until_end=True, batch=20)
-        with self.assertRaises(misteluk.PoolEmpty) as told:
+        with self.assertRaises(misteluk.errors.PoolEmpty) as told:
             next(followed)
         self.assertRegex(str(told.exception), r"PoolEmpty( \(record 22\))?: 20 rows of")
         self.assertIn("lines 1 to 20, are not in, and pending still; 0 rows before them are in. The batch needs 20 free blocks, "
                       "and 16 are free", str(told.exception))
         self.assertEqual((store.pending, told.exception.needed, told.exception.free), (20, 20, 16))
-        self.assertRaises(misteluk.PoolEmpty, next, followed)
+        self.assertRaises(misteluk.errors.PoolEmpty, next, followed)
         for _ in range(8):
             store.remove(KIND, "no", "such")
-        self.assertRaises(misteluk.PoolEmpty, store.commit, batch=14)  # (two batches: one is in, the other is not)
+        self.assertRaises(misteluk.errors.PoolEmpty, store.commit, batch=14)  # (two batches: one is in, the other is not)
         self.assertEqual((store.pending, store.stat().edges), (14, 14))
-        with self.assertRaisesRegex(misteluk.PoolEmpty, "20 rows of .* are not in, and pending still"):
+        with self.assertRaisesRegex(misteluk.errors.PoolEmpty, "20 rows of .* are not in, and pending still"):
             next(followed)
 
     def test_what_can_t_be_followed(self):
         store, path = self.store(blocks=64), self.file("p.csv", "a,b,1,1\n")
         for fault, options in (("times are no dates|no dates here", {"keep": "14d"}), ("not 'x'", {"every": "x"}),
-                               ("keep is a length of time", {"keep": 3, "times": "iso"}), ("not 'matrix'", {"format": "matrix"}),
+                               ("keep is a length of time", {"keep": 3, "units": Units(times="iso")}), ("not 'matrix'",
+                                                                                                        {"format": "matrix"}),
                                ("by is 'set'", {"by": "x"}), ("batch is from", {"batch": 0}), ("names is", {"names": "x"}),
                                ("no encoding", {"encoding": "x"}), ("third is", {"format": "snap", "third": "x"})):
             with self.assertRaisesRegex(ValueError, fault):
@@ -287,14 +288,14 @@ class Following(Case):
         self.assertRaisesRegex(ValueError, "packed", self.follow, "p.csv.gz", store)
         self.assertRaises(OSError, self.follow, str(self.room / "none.csv"), store)
         store.insert("l", "a", "b")
-        self.assertRaisesRegex(misteluk.Uncommitted, "before a feed is followed", self.follow, path, store)
+        self.assertRaisesRegex(misteluk.errors.Uncommitted, "before a feed is followed", self.follow, path, store)
 
     def test_a_file_that_is_cut(self):
         path = self.file("cut.csv", "a,b,1,1\nb,c,2,2\n")
         followed = self.follow(path, every=0)
         next(followed)
         self.file("cut.csv", "x,y,1,1\n")
-        self.assertRaisesRegex(misteluk.FeedFault, "was cut to 8 bytes, and 16 were read", next, followed)
+        self.assertRaisesRegex(misteluk.errors.FeedFault, "was cut to 8 bytes, and 16 were read", next, followed)
         self.assertEqual(followed.store.stat().edges, 2)
 
     def interrupted(self, count):
@@ -346,11 +347,11 @@ class Following(Case):
                 found = [(it.commit.version, it.rows, it.line) for it in self.steps]
                 assert found == [(1, 2, 2), (2, 4, 4), (3, 5, 5)], found
                 with self.store.open() as session:
-                    assert session.edge("link", "a", "b") == (21, 1, 5) and len(session) == 3
+                    assert session.edge("link", "a", "b") == (21, 1, 5) and session.edge_count == 3
 
             def end(self):
                 self.followed.close()
-                self.store.kill()
+                self.store._kill()
         return places(Scene, Scene.go_on, Scene.is_right)
 
     def test_each_step_is_given_once(self):
@@ -377,7 +378,7 @@ class Following(Case):
         (step,) = self.follow(path, until_end=True, columns=Columns(), third="time")
         self.assertEqual((step.rows, step.line, step.newest), (2, 3, 8))
         followed = self.follow(self.file("list.txt", "# edges\n1 2 7\n2 3\n4 5 9\n"), until_end=True, third="time")
-        self.assertRaisesRegex(misteluk.FeedFault, "list.txt:3: 2 fields", list, followed)
+        self.assertRaisesRegex(misteluk.errors.FeedFault, "list.txt:3: 2 fields", list, followed)
 
 
 if __name__ == "__main__":

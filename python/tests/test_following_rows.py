@@ -7,7 +7,7 @@ from unittest import mock
 from support import Case
 from test_following import COLUMNS
 
-from misteluk import delimited
+from misteluk.feeds.delimited import delimited
 from misteluk.feeds import feed as feeds, growing
 
 

@@ -33,7 +33,7 @@ class GivingBack(Case):
             session = store.open()
             self.assertEqual(session.edge("k", f"s{at % 1_000}", "t").weight, at)
             if is_read:
-                self.assertEqual((len(session.edges_columns()), session.degrees()["t"].into), (EDGES, EDGES // 10))
+                self.assertEqual((len(session.edges()), session.degrees()["t"].into), (EDGES, EDGES // 10))
             session.close()
             closed.append(session)
         return closed
@@ -60,7 +60,7 @@ class GivingBack(Case):
         session, barrier = store.open(), threading.Barrier(64)
         within: List[None] = []
         most: List[int] = []
-        library = store.engine.library
+        library = store._engine.library
         clone = library.version_clone
 
         def counted(*given: object) -> int:

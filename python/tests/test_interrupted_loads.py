@@ -8,13 +8,14 @@ from unittest import mock
 from interrupting import places
 from support import Case
 
-from misteluk import ledger, Columns, Store, load_in_steps, survey
+from misteluk import Columns, Store, ledger, survey
+from misteluk.feeds.loading import load_in_steps
 from misteluk.values.units import Units
 
 # Rows of a feed, two a batch: an edge that is in each of three batches, and a name that goes as an id.
 ROWS = [("a", "b", 1, 1), ("b", "c", 2, 2), ("a", "b", 4, 3), ("c", "d e", 8, 4), ("a", "b", 16, 5)]
 ROWS_A_BATCH, BATCHES = 2, 3
-COLUMNS = Columns(1, 2, weight=3, time=4, usual_kind="l")
+COLUMNS = Columns(1, 2, weight=3, time=4, default_kind="l")
 BEFORE = {("l", "a", "b"): (5, 1, 1)}
 
 
@@ -47,7 +48,7 @@ class Scene:
         self.has(self.after(there))
         assert self.load().commit.version == count + BATCHES + 1
         self.has(self.after(there + ROWS))
-        assert self.session.edges(list(BEFORE)) == list(BEFORE.values()) and self.store.pending == 0
+        assert self.session.get_edges(list(BEFORE)) == list(BEFORE.values()) and self.store.pending == 0
 
     def after(self, rows):
         """The edges behind such rows, by a plain loop."""
@@ -60,12 +61,12 @@ class Scene:
     def has(self, edges):
         """Whether the last version has these edges and no others, by their own names."""
         with self.store.open() as session:
-            assert session.edges(list(edges)) == list(edges.values()), edges
+            assert session.get_edges(list(edges)) == list(edges.values()), edges
             assert set(session.degrees()) == {it for _, *ends in edges for it in ends}
             assert self.store.stat().edges == len(edges)
 
     def end(self):
-        self.store.kill()
+        self.store._kill()
 
 
 class Empty:
@@ -73,22 +74,22 @@ class Empty:
 
     def __init__(self, _):
         self.store = Store(blocks=64)
-        self.found = survey(ROWS, by="add", batch=ROWS_A_BATCH, columns=COLUMNS, weight_scale=100)
+        self.found = survey(ROWS, by="add", batch=ROWS_A_BATCH, columns=COLUMNS, units=Units(weight_scale=100))
 
     def load(self):
         self.store.load(self.found, by="add")
 
     def is_right(self):
         """Whether the units are the feed's where a part of it is in, and no one's where nothing is."""
-        wanted = Units(100) if self.store.stat().version else Units()
+        wanted = Units(100 if self.store.stat().version else 1, "number")
         assert (self.store.units, self.store.kinds) == (wanted, ["l"] if self.store.stat().version else []), self.store.units
-        assert self.store.load([("x", "y", 7)], by="set", weight_scale=wanted.weight_scale).commit.inserted == 1
+        assert self.store.load([("x", "y", 7)], by="set", units=Units(weight_scale=wanted.weight_scale)).commit.inserted == 1
         with self.store.open() as session:
             assert session.edge("link", "x", "y").weight == 7
             assert not self.store.kinds[1:] or session.edge("l", "b", "c").weight == 2
 
     def end(self):
-        self.store.kill()
+        self.store._kill()
 
 
 class Loads(Case):

@@ -39,7 +39,8 @@ class Interrupts(Case):
         anew = functools.partial(Scene, limits=misteluk.Limits(batches=1))
         scene = anew()
         self.addCleanup(scene.end)
-        self.assertEqual((scene.store.operations_kept, scene.store.commit().version, scene.store.operations_kept), (2, 2, 3))
+        self.assertEqual((scene.store._engine.operations_kept, scene.store.commit().version,
+                          scene.store._engine.operations_kept), (2, 2, 3))
         for name in ("commit", "small batches"):
             count, wrong = self.places(name, anew)
             self.assertGreater(count, 30)

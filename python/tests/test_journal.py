@@ -1,5 +1,4 @@
-"""A store that has a file: what is committed is there behind a restart, by the same versions, and each batch of a producer
-once."""
+"""A store that has a file: what is committed is there after a restart, each batch of a producer once."""
 import contextlib
 import datetime
 import os
@@ -11,9 +10,10 @@ import unittest
 from unittest import mock
 
 from journaled import JournalCase, Model, batch, put, ran, told
-from support import HERE
+from support import HERE, row
 
-from misteluk import Columns, JournalFault, Limits, Locked, NamesFull, NotWritten, ReadOnly, SequenceTaken, Store, StoreError
+from misteluk import Columns, Limits, Store, StoreError, Units
+from misteluk.errors import JournalFault, Locked, NamesFull, NotWritten, ReadOnly, SequenceTaken
 from misteluk.journal import beside, compaction, engine, tables
 from misteluk.journal.checking import check
 from misteluk.journal.compaction import write_base
@@ -34,23 +34,23 @@ class Reopened(JournalCase):
         self.assertEqual(sorted(os.listdir(self.room)), ["graph.db", "graph.db-lock"])
 
     def test_names_units_and_times(self):
-        with Store(self.path, weight_scale=100, times="iso") as store:
+        with Store(self.path, units=Units(weight_scale=100, times="iso")) as store:
             store.add("Überweisung", "ana", "Иванов Пётр", "0.10", "2024-03-04")
             store.commit()
         with Store(self.path) as store, store.open() as session:
             edge = session.edge("Überweisung", "ana", "Иванов Пётр")
             self.assertEqual((str(edge.weight), edge.first.isoformat()), ("0.10", "2024-03-04T00:00:00+00:00"))
             self.assertEqual((store.kinds, store.units.weight_scale, store.units.times), (["Überweisung"], 100, "iso"))
-        with Store(self.path, decimals="float") as store, store.open() as session:
+        with Store(self.path, units=Units(decimals="float")) as store, store.open() as session:
             self.assertEqual(session.edge("Überweisung", "ana", "Иванов Пётр").weight, 0.1)
-        for said in ({"weight_scale": 10}, {"times": "number"}):
+        for said in ({"units": Units(weight_scale=10)}, {"units": Units(times="number")}):
             with self.assertRaisesRegex(ValueError, "is said"):
                 Store(self.path, **said)
 
     def test_units_and_names_of_a_load(self):
         self.file("rows.csv", "from,to,amount,day\nana,Иванов Пётр,1.50,2024-03-04\n")
         with Store(self.path) as store:
-            store.load(str(self.room / "rows.csv"), by="add", weight_scale=100, times="iso",
+            store.load(str(self.room / "rows.csv"), by="add", units=Units(weight_scale=100, times="iso"),
                        columns=Columns("from", "to", weight="amount", time="day"))
         with Store(self.path) as store, store.open() as session:
             self.assertEqual([(it[2], str(it[3].weight)) for it in session.edges()], [("Иванов Пётр", "1.50")])
@@ -72,18 +72,18 @@ class Reopened(JournalCase):
             store.file.compact()
         self.assertEqual(check(self.path).faults, [])
         with Store(self.path) as store:
-            self.assertEqual((store.file.recovered, store.commit().version), ((3, 3, 0, 0), 4))
+            self.assertEqual((row(store.file.recovered), store.commit().version), ((3, 3, 0, 0), 4))
 
     def test_a_renewal_and_a_rebase_keep_numbers(self):
         store = self.fed(5)
-        store.renew()
+        store.compact()
         with store.open() as session:
-            self.assertEqual(store.rebase(session).version, 5)
+            self.assertEqual(store.compact(session).version, 5)
         self.assertEqual(told(store), Model().upto(5).told())
         old = store.open()
         put(store, batch(6))
         with self.assertRaisesRegex(StoreError, "older version"):
-            store.rebase(old)
+            store.compact(old)
         self.assertEqual(told(store), Model().upto(6).told())
         store.close()
         with Store(self.path) as store:
@@ -115,7 +115,7 @@ class AsOf(JournalCase):
         then = Store.at(self.path, version=2)
         self.addCleanup(self.let_go, then)
         then.insert("k", "a", "b")
-        for call in (then.commit, then.renew, lambda: then.rebase(then.open())):
+        for call in (then.commit, then.compact, lambda: then.compact(then.open())):
             with self.assertRaises(ReadOnly):
                 call()
         self.assertEqual((self.room / "graph.db").read_bytes(), before)
@@ -277,12 +277,12 @@ class Tables(JournalCase):
         self.assertEqual((done.version, done.oldest, done.dropped), (10, 0, 0))
         for number in range(11, 21):
             put(store, batch(number), producer="feed", sequence=number)
-        self.assertEqual(store.file.compact(history=4)[2:], (10, 10))
+        self.assertEqual(row(store.file.compact(history=4))[2:], (10, 10))
         self.assertEqual(self.rows("SELECT version FROM bases"), [(10,), (20,)])
         self.assertEqual(self.rows("SELECT min(version), max(version) FROM batches"), [(11, 20)])
         for number in range(21, 31):
             put(store, batch(number), producer="feed", sequence=number)
-        self.assertEqual(store.file.compact(history=datetime.timedelta(0))[2:], (20, 10))
+        self.assertEqual(row(store.file.compact(history=datetime.timedelta(0)))[2:], (20, 10))
         self.assertEqual(self.rows("SELECT DISTINCT version FROM columns"), [(20,), (30,)])
         self.assertEqual(check(self.path)[:4], (20, 30, 10, 2))
         self.assertEqual(store.file.last_sequence("feed"), 30)
@@ -296,7 +296,7 @@ class Tables(JournalCase):
             store = self.opened(**options)
             for number in range(store.stat().version + 1, 61):
                 put(store, batch(number), producer="feed", sequence=number)
-                store.engine.beside.join()
+                store._engine.beside.join()
         return store
 
     def test_compaction_by_itself(self):
@@ -340,8 +340,8 @@ class Tables(JournalCase):
             journal.is_closed = journal.is_closed or "INSERT" in statements[0][0]
             real(journal, *statements)
         with Store(self.path) as store, mock.patch.object(compaction, "_step", step):
-            store.engine.beside.grew(beside.LEAST_OPERATIONS)
-            store.engine.beside.join()
+            store._engine.beside.grew(beside.LEAST_OPERATIONS)
+            store._engine.beside.join()
         with Store(self.path) as store:
             self.assertEqual((self.rows("SELECT * FROM bases"), self.rows("SELECT id FROM columns")), ([], []))
             self.assertEqual(told(store), Model().upto(60).told())
@@ -354,7 +354,7 @@ class Tables(JournalCase):
     def test_a_commit_amid_a_step_of_a_compaction(self):
         """The step writes no head back that isn't the last one any more."""
         store = self.fed(3)
-        journal, real = store.engine._journal, Journal.settle
+        journal, real = store._engine._journal, Journal.settle
         feeder = threading.Thread(target=lambda: put(store, batch(4)))
 
         def settle(self):
@@ -389,9 +389,9 @@ class Tables(JournalCase):
         with Store(str(self.room / "other.db")) as other:
             for number in range(2, 6):
                 put(other, batch(number), producer="feed", sequence=number)
-            held, make, _ = other.engine._frozen()
+            held, make, _ = other._engine._frozen()
             with Store(self.path) as store:
-                write_base(store.engine._journal, 4, tables.read_sum(store.engine._journal.opened, 4), make(held))
+                write_base(store._engine._journal, 4, tables.read_sum(store._engine._journal.opened, 4), make(held))
             held.close()
         self.assertEqual(check(self.path).faults, ["the base of version 4 isn't the graph that the batches before it lead to"])
 

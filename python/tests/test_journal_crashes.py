@@ -9,7 +9,8 @@ import crashing
 from journaled import told
 from support import Case
 
-from misteluk import JournalFault, Store
+from misteluk import Store
+from misteluk.errors import JournalFault
 from misteluk.journal import journal
 from misteluk.journal.lock import WritersLock
 from misteluk.journal.tables import Written

@@ -4,7 +4,7 @@ import unittest
 import warnings
 
 from interrupting import at_line, places
-from support import Case
+from support import Case, row
 
 from misteluk import Store
 from misteluk.journal.checking import check
@@ -53,7 +53,7 @@ class Scene:
             if is_sent:
                 self.pend()
             done = store.commit(producer="feed", sequence=1)
-            assert done[:5] == (2, 0, 3, 0, 0) and store.pending == 0, (done, store.pending)
+            assert row(done)[:5] == (2, 0, 3, 0, 0) and store.pending == 0, (done, store.pending)
         self.holds(8, 2)
 
     def is_there(self):
@@ -70,7 +70,7 @@ class Scene:
             assert (session.edge("k", "a", "b"), session.version) == ((weight, 1, 2), version), "the file"
 
     def end(self):
-        self.store.kill()
+        self.store._kill()
 
 
 class Interrupts(Case):

@@ -6,8 +6,10 @@ import unittest
 from unittest import mock
 
 from journaled import JournalCase, Model, batch, of_sqlite, put, told
+from support import row
 
-from misteluk import JournalFault, KindsFull, Limits, NamesFull, NotWritten, OverLimit, PoolEmpty, Store
+from misteluk import Limits, Store
+from misteluk.errors import JournalFault, KindsFull, NamesFull, NotWritten, OverLimit, PoolEmpty
 from misteluk.engine.protocol import WHOLE
 from misteluk.engine.waiting import WaitingEngine
 from misteluk.journal.checking import check
@@ -57,10 +59,10 @@ class Refused(JournalCase):
         put(store, [("insert", "k", "a", "b", 1, 1)])
         with mock.patch.object(WaitingEngine, "finish", side_effect=KeyboardInterrupt), self.assertRaises(KeyboardInterrupt):
             put(store, [("insert", "k", "a", "c", 1, 1)], producer="feed", sequence=1)
-        self.assertEqual((self.rows("SELECT version FROM batches"), told_of(store.engine)), ([(1,), (2,)], (1, 1)))
-        store.kill()
+        self.assertEqual((self.rows("SELECT version FROM batches"), told_of(store._engine)), ([(1,), (2,)], (1, 1)))
+        store._kill()
         with Store(self.path) as store:
-            self.assertEqual((store.stat().version, store.commit(producer="feed", sequence=1)[:2]), (2, (2, 1)))
+            self.assertEqual((store.stat().version, row(store.commit(producer="feed", sequence=1))[:2]), (2, (2, 1)))
             with mock.patch.object(Journal, "append") as append, self.assertRaises(NamesFull):
                 put(store, [("insert", "k", "a", "d", 1, 1)])
             self.assertFalse(append.called)
@@ -134,7 +136,7 @@ class Failed(JournalCase):
     """A batch that can't be written leaves the store and its sessions as they were."""
 
     def planted(self, store, *how, **more):
-        journal = store.engine._journal
+        journal = store._engine._journal
         journal.opened = Failing(journal.opened, *how, **more)
         return journal.opened
 
@@ -147,7 +149,7 @@ class Failed(JournalCase):
                 with self.assertRaisesRegex(NotWritten, "full"):
                     put(store, batch(4), producer="feed", sequence=4)
                 self.assertEqual(told(store), model.told())
-                self.assertEqual((store.discard(), session.is_open, len(session)), (40, True, len(model.edges)))
+                self.assertEqual((store.discard(), session.is_open, session.edge_count), (40, True, len(model.edges)))
             failing.is_on = False
         self.assertEqual(put(store, batch(4), producer="feed", sequence=4).version, 4)
         self.assertEqual(put(store, batch(4), producer="feed", sequence=4).version, 4)
@@ -159,11 +161,11 @@ class Failed(JournalCase):
     def test_a_database_that_may_not_grow(self):
         """SQLite's own word for a full disk, from the page on at which it comes."""
         store = self.fed(3)
-        store.engine._journal.opened.execute("PRAGMA max_page_count=1")
+        store._engine._journal.opened.execute("PRAGMA max_page_count=1")
         with self.assertRaises(NotWritten):
             put(store, [("insert", "k", f"a{it}", "b", 1, 1) for it in range(4_000)])
         store.discard()
-        store.engine._journal.opened.execute("PRAGMA max_page_count=1000000")
+        store._engine._journal.opened.execute("PRAGMA max_page_count=1000000")
         self.assertEqual(told(store), Model().upto(3).told())
         self.assertEqual(put(store, batch(4)).version, 4)
 
@@ -226,7 +228,7 @@ class Failed(JournalCase):
     def test_nobody_sees_what_is_not_on_the_disk(self):
         """While a batch is being synced, sessions get the version before it, and keep it."""
         store, seen, kept = self.fed(2, seats=4), [], []
-        journal, engine = store.engine._journal, store.engine
+        journal, engine = store._engine._journal, store._engine
 
         def asks():
             seen.append((engine.stat().version, *told_of(engine)))

@@ -18,7 +18,7 @@ from unittest import mock
 from support import HERE, Case
 
 import misteluk
-from misteluk import Edge, Store
+from misteluk import Edge, Store, errors
 from misteluk.engine import asked, calling, finding, held, interface
 from misteluk.engine.finding import OF_LIBRARY, find_library
 from misteluk.engine.guard import Guard, Notes, Owned, alone
@@ -36,8 +36,8 @@ def told(call):
 def answers():
     """What a session answers to calls, of which it keeps something."""
     session = SESSION[0]
-    return [told(it) for it in (session.degrees, session.edges_columns, lambda: session.edges_into("b"),
-                                lambda: session.edges_out_of("a"), lambda: session.edge("k", "a", "b"))]
+    return [told(it) for it in (session.degrees, session.edges, lambda: session.in_edges("b"),
+                                lambda: session.out_edges("a"), lambda: session.edge("k", "a", "b"))]
 
 
 class InProcess(Case):
@@ -45,11 +45,11 @@ class InProcess(Case):
         """While another feeds: each answer is the held version's."""
         store = self.store(*(f"insert k s{it % 40} t{it % 70} {it} {it}" for it in range(2_000)))
         session, wrong, is_over = store.open(), [], threading.Event()
-        wanted = session.degrees().dict(), session.cores().dict(), session.into("t3"), sorted(session.edges())
+        wanted = session.degrees().dict(), session.cores().dict(), session.predecessors("t3"), sorted(session.edges())
 
         def ask():
             while not is_over.is_set():
-                found = session.degrees().dict(), session.cores().dict(), session.into("t3"), sorted(session.edges())
+                found = session.degrees().dict(), session.cores().dict(), session.predecessors("t3"), sorted(session.edges())
                 if found != wanted:
                     wrong.append(found)
         threads = [threading.Thread(target=ask) for _ in range(4)]
@@ -71,24 +71,24 @@ class InProcess(Case):
         store.insert("l", "b", "c", 2, 2)
         store.commit()
         new = store.open()
-        self.assertEqual((new.edge("l", "b", "c"), len(new.edges_into("c", "l"))), (Edge(2, 2, 2), 1))
-        for ask in (old.edges_into, old.edges_out_of, lambda name: old.edge("k", "a", name)):
+        self.assertEqual((new.edge("l", "b", "c"), len(new.in_edges("c", "l"))), (Edge(2, 2, 2), 1))
+        for ask in (old.in_edges, old.out_edges, lambda name: old.edge("k", "a", name)):
             self.assertRaises(misteluk.NoVertex, ask, "c")
-        self.assertRaises(misteluk.NoKind, old.edge, "l", "a", "b")
+        self.assertRaises(misteluk.errors.NoKind, old.edge, "l", "a", "b")
         self.assertEqual((old.edge("k", "a", "b"), new.edge("k", "a", "b")), (Edge(1, 1, 1), Edge(1, 1, 1)))
 
     def test_an_opening_costs_no_walk_over_names(self):
         """A version's sizes, for which the library goes through all its names, are asked for once many names are wanted."""
         store = self.store("insert k a b 1 1", "insert l b c 2 2", seats=3)
-        sizes = mock.Mock(side_effect=store.engine.library.version_size)
-        with mock.patch.object(store.engine.library, "version_size", sizes):
+        sizes = mock.Mock(side_effect=store._engine.library.version_size)
+        with mock.patch.object(store._engine.library, "version_size", sizes):
             first = store.open()
-            self.assertEqual((first.version, first.names, list(first.degrees()), first.edges_columns().kinds),
+            self.assertEqual((first.version, first.vertex_count, list(first.degrees()), first.edges().kinds),
                              (1, 3, ["a", "b", "c"], ("k", "l")))
             names = [f"{it:064}" for it in range(held.FEW_NAMES + 1)]
             store.load({"source": names[:-1], "target": names[1:]}, by="set")
             second = store.open()
-            self.assertEqual((second.version, second.names, sizes.call_count), (2, len(names) + 3, 0))
+            self.assertEqual((second.version, second.vertex_count, sizes.call_count), (2, len(names) + 3, 0))
             self.assertEqual((list(second.degrees()), sizes.call_count), (["a", "b", "c", *names], 1))
             store.insert("m", "z" * 64, "a")
             store.commit()
@@ -98,12 +98,12 @@ class InProcess(Case):
         """Calls that come one after another have one copy of a version's handle between them."""
         session = self.store("insert k a b 1 1").open()
         for _ in range(3):
-            self.assertEqual((session.edge("k", "a", "b").weight, len(session.held.kept.idle)), (1, 1))
+            self.assertEqual((session.edge("k", "a", "b").weight, len(session._held.kept.idle)), (1, 1))
 
     def test_tables_are_kept(self):
         """A question that was asked before costs no call: the latest ones, up to so many bytes, or the last one alone."""
         store = self.store("insert k a b 1 1", "insert l b c 2 9", seats=3)
-        session, library = store.open(), store.engine.library
+        session, library = store.open(), store._engine.library
         asks = [session.degrees, session.components, session.cores, lambda: session.levels("a"), lambda: session.levels("b"),
                 lambda: session.degrees("k"), lambda: session.components(since=5), lambda: session.cores("l", 2, 9)]
         calls = [mock.patch.object(library, f"version_{it}", mock.Mock(side_effect=getattr(library, f"version_{it}")))
@@ -227,7 +227,7 @@ class Choice(Case):
         """Nothing stands for it: it says what to do."""
         with mock.patch.dict(os.environ, {OF_LIBRARY: "/no/such.so"}):
             for options in ({}, {"blocks": 64}, {"endless": True}):
-                with self.assertRaises(misteluk.LibraryNotFound) as told:
+                with self.assertRaises(misteluk.errors.LibraryNotFound) as told:
                     Store(**options)
                 self.assertEqual(str(told.exception), "no file /no/such.so (named by MISTELUK_LIBRARY) is there. Have "
                                  "MISTELUK_LIBRARY name another one, or unset it: then the package's own is loaded, or the one "
@@ -237,7 +237,7 @@ class Choice(Case):
         """Of a package that stands alone, as one that was installed without one."""
         alone = str(self.room / "there" / "misteluk" / "engine" / "finding.py")
         with mock.patch.dict(os.environ, {OF_LIBRARY: ""}), mock.patch.object(finding, "__file__", alone):
-            self.assertRaisesRegex(misteluk.LibraryNotFound, "^no libmisteluk.so is here. Make it by ./stinger library in the "
+            self.assertRaisesRegex(errors.LibraryNotFound, "^no libmisteluk.so is here. Make it by ./stinger library in the "
                                    "repository, or install the wheel of a release, or have MISTELUK_LIBRARY name a", Store)
 
     def test_a_library_of_elsewhere(self):
@@ -251,16 +251,16 @@ class Choice(Case):
             path.write_bytes(held)
             with mock.patch.dict(os.environ, {OF_LIBRARY: str(path)}):
                 told = f"no library can be loaded: .*{why}.*Have MISTELUK_LIBRARY name another"
-                self.assertRaisesRegex(misteluk.LibraryNotFound, told, Store)
+                self.assertRaisesRegex(misteluk.errors.LibraryNotFound, told, Store)
 
     def test_a_library_of_another_time(self):
         """One that lacks a function, and one of another interface."""
         with mock.patch.dict(os.environ, {OF_LIBRARY: _ctypes.__file__}):
-            self.assertRaisesRegex(misteluk.LibraryNotFound, "has no function misteluk_.*Have MISTELUK_LIBRARY name", Store)
+            self.assertRaisesRegex(errors.LibraryNotFound, "has no function misteluk_.*Have MISTELUK_LIBRARY name", Store)
         here = interface.INTERFACE
         with mock.patch.object(interface, "INTERFACE", 99), mock.patch.dict(calling._OPENED, clear=True), mock.patch.dict(
                 os.environ, {OF_LIBRARY: find_library()}):
-            self.assertRaisesRegex(misteluk.LibraryNotFound, f"interface {here}, and this needs 99. Have MISTELUK_LIBRARY", Store)
+            self.assertRaisesRegex(errors.LibraryNotFound, f"interface {here}, and this needs 99. Have MISTELUK_LIBRARY", Store)
 
     def test_no_copy(self):
         """A second store of the same handles would free them twice."""

@@ -8,10 +8,10 @@ from ctypes import sizeof
 from unittest import mock
 
 from interrupting import CALLS, Scene, places
-from support import Case
+from support import Case, row
 
 import misteluk
-from misteluk import Columns, Limits, Store, survey
+from misteluk import Columns, Limits, Store, errors, survey
 from misteluk.command.main import main
 from misteluk.engine import interface, library
 from misteluk.feeds.feed import Feed
@@ -68,7 +68,7 @@ class OfLimits(unittest.TestCase):
                 self.assertLessEqual(found.vertices * found.kinds, said.product)
                 self.assertEqual((found.checked(), found.weight), (found, said.weight))
         for kinds, room in ((0, 8), (8, 8), (9, 16), (16, 16), (17, 32), (32, 32), (33, 64), (64, 64)):
-            self.assertEqual(Limits().shape(1_000, kinds), (limits.MOST_PRODUCT // room, room, limits.MOST_BATCHES, None))
+            self.assertEqual(Limits().shape(1_000, kinds), Limits(limits.MOST_PRODUCT // room, room, limits.MOST_BATCHES, None))
 
 
 class Room(Case):
@@ -77,29 +77,29 @@ class Room(Case):
 
     def told(self, store):
         with store.open() as session:
-            return session.version, list(session.edges_columns().names), sorted(session.edges())
+            return session.version, list(session.edges().names), sorted(session.edges())
 
     def test_limits_that_are_said(self):
         store = self.store(limits=Limits(vertices=4, kinds=2))
         store.load(self.path(3), by="set")
         store.insert("link", "v0", "one-more")
-        with self.assertRaisesRegex(misteluk.NamesFull, r"There would be 5 vertices, where the store takes 4. Make the store "
+        with self.assertRaisesRegex(errors.NamesFull, r"There would be 5 vertices, where the store takes 4. Make the store "
                                                         r"with more than Limits\(vertices=4, kinds=2\)"):
             store.commit()
         self.assertEqual((store.pending, store.discard()), (1, 1))
         for kind in ("a", "b"):
             store.insert(kind, "v0", "v1")
-        with self.assertRaisesRegex(misteluk.KindsFull, "There would be 3 kinds, where the store takes 2"):
+        with self.assertRaisesRegex(misteluk.errors.KindsFull, "There would be 3 kinds, where the store takes 2"):
             store.commit()
         store.discard()
-        with self.assertRaisesRegex(misteluk.OverLimit, "has 9 vertices, where the store takes 4. Make the store with more than"):
+        with self.assertRaisesRegex(errors.OverLimit, "has 9 vertices, where the store takes 4. Make the store with more than"):
             store.load(self.path(8), by="set")
         self.assertEqual((store.stat().version, store.stat().edges), (1, 3))
 
     def test_batches_that_are_said(self):
         """The store begins anew by itself then, so that it takes as many as come."""
         store = self.store(limits=Limits(batches=3))
-        with mock.patch.object(store.engine, "_begin_anew", wraps=store.engine._begin_anew) as anew:
+        with mock.patch.object(store._engine, "_begin_anew", wraps=store._engine._begin_anew) as anew:
             for it in range(10):
                 store.insert("k", "a", f"b{it}")
                 self.assertEqual(store.commit().version, it + 1)
@@ -137,7 +137,7 @@ class Room(Case):
         fixed.load(self.path(9), by="set")
         for it in range(200):
             fixed.insert("link", f"w{it}", "v1")
-        with self.assertRaisesRegex(misteluk.PoolEmpty, "needs 200 free blocks, and 7 are free"):
+        with self.assertRaisesRegex(misteluk.errors.PoolEmpty, "needs 200 free blocks, and 7 are free"):
             fixed.commit()
         fixed.discard()
 
@@ -152,13 +152,13 @@ class Room(Case):
         for it in range(40):
             store.insert("k", f"u{it}", "t")
         self.assertEqual((store.commit().version, store.stat().edges, store.blocks), (17, 56, 64))
-        self.assertEqual([len(it) for it in held], list(range(1, 17)))
+        self.assertEqual([it.edge_count for it in held], list(range(1, 17)))
 
     def test_a_load_has_room_before_it_begins(self):
         """An empty store is opened with as many blocks as a feed wants, so that nothing is copied on the way."""
         with mock.patch.object(library, "FIRST_BLOCKS", 16):
             store = self.store()
-        with mock.patch.object(store.engine, "_copy", wraps=store.engine._copy) as copy:
+        with mock.patch.object(store._engine, "_copy", wraps=store._engine._copy) as copy:
             store.load(self.path(3_000), by="set", batch=500)
         self.assertEqual((copy.call_count, store.blocks, store.stat().edges, store.stat().version), (1, 4_096, 3_000, 6))
 
@@ -168,14 +168,15 @@ class Room(Case):
             with self.subTest(blocks=blocks, batch=batch):
                 store = self.store(blocks=blocks)
                 loaded = store.load(self.path(10_000), by="set", batch=batch)
-                self.assertEqual(loaded.commit[:2] + (loaded.commit.batches,), (versions, 10_000, versions))
+                self.assertEqual((loaded.commit.version, loaded.commit.inserted, loaded.commit.batches),
+                                 (versions, 10_000, versions))
                 self.assertEqual((store.stat().version, loaded.records), (versions, 10_000 + 2 * versions))
                 self.assertEqual(self.told(store)[2], sorted(("link", *it, (1, 0, 0)) for it in self.path(10_000)))
 
     def test_a_large_batch_of_a_load_that_is_refused_goes_in_as_far_as_it_can(self):
         store = self.store(limits=Limits(vertices=12_000))
         store.load([(f"w{it}", f"w{it + 1}") for it in range(2_999)], by="set")
-        with self.assertRaisesRegex(misteluk.NamesFull, "lines 8193 to 10000 was refused, .* 8192 rows before it are"):
+        with self.assertRaisesRegex(misteluk.errors.NamesFull, "lines 8193 to 10000 was refused, .* 8192 rows before it are"):
             store.load(self.path(10_000), by="set")
         self.assertEqual((store.stat().version, store.stat().edges), (3, 2_999 + 8_192))
 
@@ -184,24 +185,24 @@ class Room(Case):
         with mock.patch.object(limits, "MOST_PRODUCT", 64):
             store = self.store()
             store.load(self.path(7), by="set")
-            self.assertEqual(store.engine._opening.shape[:2], (8, 8))
+            self.assertEqual(row(store._engine._opening.shape)[:2], (8, 8))
             held, before = store.open(), self.told(store)
             for it in range(20):
                 store.insert("link", f"w{it}", "v1")
             self.assertEqual(store.commit().version, 2)
-            self.assertEqual(store.engine._opening.shape[:2], (64, 1))
+            self.assertEqual(row(store._engine._opening.shape)[:2], (64, 1))
             self.assertEqual(self.told(store)[1][:8], before[1])
             store.insert("road", "v1", "v2")
-            self.assertEqual((store.commit().version, store.engine._opening.shape[:2]), (3, (32, 2)))
+            self.assertEqual((store.commit().version, row(store._engine._opening.shape)[:2]), (3, (32, 2)))
             store.insert("rail", "v1", "v2")
             told = "There would be 28 vertices, where the store takes 21 beside 3 kinds. No store takes more"
-            with self.assertRaisesRegex(misteluk.KindsFull, told):
+            with self.assertRaisesRegex(misteluk.errors.KindsFull, told):
                 store.commit()
             self.assertEqual((store.discard(), sorted(held.edges())), (1, before[2]))
 
     def test_the_library_has_the_walls(self):
         """What the limits say here the library says too."""
-        engine = self.store().engine
+        engine = self.store()._engine
         for wanted, blocks, code in (((131_071, 64, 1), 16, 0), ((131_072, 64, 1), 16, 19), ((8_388_606, 1, 1), 16, 0),
                                      ((8_388_607, 1, 1), 16, 19), ((1, 65, 1), 16, 19), ((1, 1, 1), limits.MOST_BLOCKS + 1, 9)):
             desk, given = interface.Desk(), interface.Limits(sizeof(interface.Limits), *wanted, limits.MOST_WEIGHT)
@@ -217,7 +218,7 @@ class Room(Case):
                 if code:
                     self.assertRaises(ValueError, Limits(vertices, kinds, 1, weight).checked)
                 else:
-                    self.assertEqual(Limits(vertices, kinds, 1, weight).checked()[:2], (vertices, kinds))
+                    self.assertEqual(row(Limits(vertices, kinds, 1, weight).checked())[:2], (vertices, kinds))
             engine.library.desk_free(desk)
 
     def test_an_endless_store_lets_names_go_before(self):
@@ -228,8 +229,8 @@ class Room(Case):
                 if it:
                     store.remove("k", f"s{it - 1}", "t")
                 store.commit()
-        self.assertEqual((store.engine._opening.shape[:2], store.stat().edges), ((10, 64), 1))
-        self.assertLess(store.stat().names, 11)
+        self.assertEqual((row(store._engine._opening.shape)[:2], store.stat().edges), ((10, 64), 1))
+        self.assertLess(store.stat().vertices, 11)
 
     def test_an_interrupt_while_it_becomes_larger(self):
         """The batch is in once, and told once, when the commit is made again."""
@@ -242,8 +243,9 @@ class Room(Case):
             def is_right(self):
                 self.told.append(self.store.commit())
                 with self.store.open() as session:
-                    assert (sum(it.inserted for it in self.told), self.store.pending, len(session)) == (30, 0, 32), self.told
-                    assert {it.weight for it in session.out_of("s3").values()} == {1} and len(self.session) == 2
+                    assert (sum(it.inserted for it in self.told), self.store.pending, session.edge_count) == (30, 0,
+                                                                                                              32), self.told
+                    assert {it.weight for it in session.successors("s3").values()} == {1} and self.session.edge_count == 2
                 assert sum(it.batches for it in self.told) == self.store.stat().version - 1
         with mock.patch.object(library, "FIRST_BLOCKS", 16):
             count, wrong = places(functools.partial(Small, blocks=None), CALLS["commit"], Small.is_right, 60)
@@ -256,9 +258,9 @@ class Room(Case):
         for it, grows in ((store, True), (fixed, False)):
             it.open().save(self.room / "saved.csv")
             with Store.restore(self.room / "saved.csv") as restored:
-                self.assertEqual((restored.engine.grows, restored.blocks), (grows, 16_384 if grows else 32))
+                self.assertEqual((restored._engine.grows, restored.blocks), (grows, 16_384 if grows else 32))
             with Store.restore(self.room / "saved.csv", blocks=64) as restored:
-                self.assertEqual((restored.engine.grows, restored.blocks), (False, 64))
+                self.assertEqual((restored._engine.grows, restored.blocks), (False, 64))
 
     def test_a_store_of_smaller_weights_loses_no_edge(self):
         """A version of larger weights isn't restored in it; a load says what wasn't set."""
@@ -298,12 +300,13 @@ class OfCommands(Case):
         with Store() as store:
             store.load(path, by="set", columns=Columns(1, 2))
             with store.open() as session:
-                self.assertEqual((session.names, len(session), session.levels("a0")["a70000"]), (70_001, 70_000, 70_000))
+                self.assertEqual((session.vertex_count, session.edge_count, session.levels("a0")["a70000"]),
+                                 (70_001, 70_000, 70_000))
 
     def test_blocks_that_no_script_has(self):
         """Batch 17 of 4,096 begins behind row 65,536, where 63,000 blocks are in use."""
         def told(rows):
-            with self.assertRaises(misteluk.OverLimit) as fault:
+            with self.assertRaises(misteluk.errors.OverLimit) as fault:
                 check(survey(rows, by="set"), limits=OF_SCRIPT, most_blocks=65_536)
             return str(fault.exception)
         rows = [(f"a{it % 32_768}", "b", 1, 0, "kl"[it // 32_768 % 2]) for it in range(65_536)]
@@ -312,7 +315,7 @@ class OfCommands(Case):
         self.assertIn("batches of 536 fit (batch=536, --batch 536)", told([*rows[:65_000], *rows[:9_000]]))
 
     def test_kinds(self):
-        with self.assertRaisesRegex(misteluk.OverLimit, "has 65 kinds, where the store takes 64"):
+        with self.assertRaisesRegex(misteluk.errors.OverLimit, "has 65 kinds, where the store takes 64"):
             self.store().load(Feed("f", [(1, f"k{it}", "a", "b", "1", "0") for it in range(65)]), by="set")
 
 

@@ -10,10 +10,11 @@ import threading
 import unittest
 from unittest import mock
 
-from support import HERE, Case, CommandCase, words_of
+from support import Case, CommandCase, HERE, row, words_of
 
 import misteluk
-from misteluk import Degree, Edge, Feed, Store
+from misteluk import Degree, Edge, Store
+from misteluk.feeds.feed import Feed
 from misteluk.feeds import terms
 from misteluk.values import names
 from misteluk.values.names import NameTable, id_of, shown
@@ -109,11 +110,11 @@ class Stores(Case):
         self.assertEqual(session.cores(), dict.fromkeys(OTHERS, 1))
         self.assertEqual(session.degrees(self.KIND)[LONG], Degree(1, 1, 4))
         self.assertEqual(list(session.degrees()), OTHERS)
-        self.assertEqual(session.degrees().most(1, by="weight")[0][0], OTHERS[-2])
+        self.assertEqual(session.degrees().top(1, by="weight")[0][0], OTHERS[-2])
         self.assertEqual(session.edge(self.KIND, AN_ID, "é"), Edge(5, 4, 4))
-        self.assertEqual(session.edges([(self.KIND, IVANOV, WANG), (self.KIND, WANG, IVANOV)]), [Edge(1, 0, 0), None])
-        self.assertEqual((session.into(IVANOV), session.into(WANG)), ({}, {IVANOV: Edge(1, 0, 0)}))
-        self.assertEqual(session.out_of(SPACES, self.KIND), {LONG: Edge(3, 2, 2)})
+        self.assertEqual(session.get_edges([(self.KIND, IVANOV, WANG), (self.KIND, WANG, IVANOV)]), [Edge(1, 0, 0), None])
+        self.assertEqual((session.predecessors(IVANOV), session.predecessors(WANG)), ({}, {IVANOV: Edge(1, 0, 0)}))
+        self.assertEqual(session.successors(SPACES, self.KIND), {LONG: Edge(3, 2, 2)})
         self.assertEqual(store.kinds, [self.KIND])
         self.assertIn(f"<td>{WANG}</td>", session.components()._repr_html_())
         self.assertEqual(session.levels(IVANOV, until=0).request, f"levels({IVANOV!r}, until=0)")
@@ -123,11 +124,11 @@ class Stores(Case):
         store.add(self.KIND, IVANOV, WANG, 5, time=9)
         store.remove(self.KIND, WANG, SPACES)
         store.remove(self.KIND, WANG, "nobody at all")
-        self.assertEqual(store.commit()[1:5], (0, 1, 1, 1))
+        self.assertEqual(row(store.commit())[1:5], (0, 1, 1, 1))
         with store.open() as session:
             self.assertEqual((session.edge(self.KIND, IVANOV, WANG), session.edge(self.KIND, WANG, SPACES)), (Edge(6, 0, 9),
                                                                                                               None))
-        store.rebase(store.open())
+        store.compact(store.open())
         self.assertEqual(store.open().edge(self.KIND, LONG, AN_ID), Edge(4, 3, 3))
 
     def test_a_name_in_the_form_of_another_s_id(self):
@@ -154,14 +155,15 @@ class Stores(Case):
         self.refused(misteluk.NoVertex, f": levels({nobody!r})", lambda: session.levels(nobody))
         self.refused(misteluk.NoVertex, f"edge({self.KIND!r}, {IVANOV!r}, {nobody!r})",
                      lambda: session.edge(self.KIND, IVANOV, nobody))
-        self.refused(misteluk.NoVertex, nobody, lambda: session.edges([(self.KIND, IVANOV, WANG), (self.KIND, IVANOV, nobody)]))
-        self.refused(misteluk.NoVertex, nobody, lambda: session.into(nobody))
-        self.refused(misteluk.NoKind, f"degrees(kind={nobody!r})", lambda: session.degrees(nobody))
-        self.refused(misteluk.BadWindow, f"levels({IVANOV!r}, since=3, until=2): since 3 is after until 2",
+        self.refused(misteluk.NoVertex, nobody, lambda: session.get_edges([(self.KIND, IVANOV, WANG),
+                                                                           (self.KIND, IVANOV, nobody)]))
+        self.refused(misteluk.NoVertex, nobody, lambda: session.predecessors(nobody))
+        self.refused(misteluk.errors.NoKind, f"degrees(kind={nobody!r})", lambda: session.degrees(nobody))
+        self.refused(misteluk.errors.BadWindow, f"levels({IVANOV!r}, since=3, until=2): since 3 is after until 2",
                      lambda: session.levels(IVANOV, since=3, until=2))
         self.refused(misteluk.NoVertex, r"'a b\nc'", lambda: session.levels("a b\nc"))
-        self.assertEqual(session.edges([(self.KIND, nobody, WANG), (nobody, IVANOV, WANG)], missing=7), [7, 7])
-        self.assertEqual(len(store.ledger.terms.names), len(OTHERS) + 1)  # (a question keeps no name)
+        self.assertEqual(session.get_edges([(self.KIND, nobody, WANG), (nobody, IVANOV, WANG)], missing=7), [7, 7])
+        self.assertEqual(len(store._ledger.terms.names), len(OTHERS) + 1)  # (a question keeps no name)
         store.insert("k", nobody, "t")
         store.commit()
         self.refused(misteluk.NoVertex, nobody, lambda: session.levels(nobody))
@@ -169,12 +171,12 @@ class Stores(Case):
         for call, told in ((lambda: store.insert("*", WANG, "t"), "kind '*'"), (lambda: store.insert("k", WANG, ""), "target ''"),
                            (lambda: store.insert("", WANG, "t"), "kind ''"),
                            (lambda: store.remove("k", "\udcff", "t"), r"source '\udcff'")):
-            self.refused(misteluk.BadName, told, call)
-        self.refused(misteluk.BadWeight, "weight '1.5'", lambda: store.insert("k", WANG, "t", 1.5))
+            self.refused(misteluk.errors.BadName, told, call)
+        self.refused(misteluk.errors.BadWeight, "weight '1.5'", lambda: store.insert("k", WANG, "t", 1.5))
         self.assertEqual(store.pending, 0)
 
     def test_what_is_lost_is_told_by_its_names(self):
-        with self.assertRaises(misteluk.Uncommitted) as told:
+        with self.assertRaises(misteluk.errors.Uncommitted) as told:
             with Store() as store:
                 store.insert("k", IVANOV, 'a "b", c', 7)
                 store.remove("k", WANG, "b")
@@ -188,7 +190,7 @@ class Loads(Case):
         store = self.store()
         loaded = store.load(Feed("f", self.ROWS + [(90, "k k", "a", "b", "1", "0"), (91, "k k", "a,b", WANG, "2", "0")]),
                             by="set")
-        self.assertEqual((loaded.survey.names, loaded.survey.kinds, loaded.survey.edges), (len(OTHERS) + 3, ["k k"],
+        self.assertEqual((loaded.survey.vertices, loaded.survey.kinds, loaded.survey.edges), (len(OTHERS) + 3, ["k k"],
                                                                                            len(OTHERS) + 1))
         session = store.open()
         self.assertEqual(list(session.degrees()), OTHERS + ["a", "b", "a,b"])
@@ -226,7 +228,8 @@ class Loads(Case):
         one, two = plain.open(), named.open()
         self.assertEqual({other[it]: value for it, value in one.degrees("k1").items()}, two.degrees("k1"))
         self.assertEqual({other[it]: other[label] for it, label in one.components("k2").items()}, two.components("k2"))
-        self.assertEqual({other[it]: edge for it, edge in one.into("v3", "k0").items()}, two.into(other["v3"], "k0"))
+        self.assertEqual({other[it]: edge for it, edge in one.predecessors("v3", "k0").items()},
+                         two.predecessors(other["v3"], "k0"))
 
     def test_escapes_stay(self):
         store = self.store()

@@ -8,7 +8,9 @@ from datetime import datetime, timezone
 from support import HERE, Case
 
 import misteluk
-from misteluk import Columns, Feed
+from misteluk import Columns, Units
+from misteluk.feeds.opening import open_feed
+from misteluk.feeds.feed import Feed
 from misteluk.feeds import notations
 
 ONE_TO_FOUR = Columns(1, 2, weight=3, time=4)
@@ -51,7 +53,7 @@ class Notations(Case):
         first, last = (datetime(2024, 3, 5, 0, 0, 0, it, tzinfo=timezone.utc) for it in (123_000, 999_000))
         for given, options, wanted, until in ((numbers, {}, numbers, 1709596800998), (
                 numbers, {"dates": "milliseconds"}, (first, last), "2024-03-05T00:00:00.998"),
-                (dates, {"times": "iso"}, (first, last), "2024-03-05T00:00:00.998")):
+                (dates, {"units": Units(times="iso")}, (first, last), "2024-03-05T00:00:00.998")):
             store = self.store()
             store.load(self.file("ms.csv", rows.format(*given)), by="add", columns=ONE_TO_FOUR, delimiter=";", **options)
             with store.open() as session:
@@ -66,7 +68,7 @@ class Notations(Case):
         path.write_bytes("von;nach;Betrag;am\nM\u00fcller;b;1.234,50;05.03.2024\na;b;-0,05;05.03.2024 12:00\n".encode("cp1252"))
         columns = Columns("von", "nach", weight="Betrag", time="am")
         found = misteluk.survey(str(path), by="add", columns=columns, encoding="cp1252", decimal=",", dates="dd.mm.yyyy",
-                                weight_scale=100, names="escape")
+                                units=Units(weight_scale=100), names="escape")
         lines = b"".join(it.text for it in found.parts).decode().splitlines()
         self.assertEqual([it.split(",")[4] for it in lines], ["123450", "-5"])
         seconds = [int(it.split(",")[5]) for it in lines]
@@ -83,7 +85,7 @@ class Notations(Case):
 
     def test_an_edge_list_in_utf_16(self):
         (self.room / "a.txt").write_bytes("# x\na b\n".encode("utf-16"))
-        feed = misteluk.open_feed(str(self.room / "a.txt"), encoding="utf-16")
+        feed = open_feed(str(self.room / "a.txt"), encoding="utf-16")
         self.assertEqual(list(feed.rows), [(2, "link", "a", "b", "1", "0")])
 
 
@@ -91,18 +93,18 @@ class Advice(Case):
     def told(self, text: str, columns: Columns = ONE_TO_FOUR, **options) -> str:
         (self.room / "a.csv").write_bytes(text.encode("latin-1"))
         with self.assertRaises(misteluk.BadRows) as fault:
-            misteluk.load(self.store(), str(self.room / "a.csv"), by="add", columns=columns, delimiter=";", **options)
+            self.store().load(str(self.room / "a.csv"), by="add", columns=columns, delimiter=";", **options)
         return str(fault.exception)
 
     def test_it_is_by_what_stands_there(self):
         self.assertIn("read by decimal=',' and weight_scale=100 (--decimal , --weight-scale 100)", self.told("a;b;12,50;1\n"))
         self.assertIn("say its encoding, as encoding='cp1252'", self.told("M\u00fcller;b;1.5;1\n"))
-        told = self.told("a;b;1;05.03.2024\n", times="iso")
+        told = self.told("a;b;1;05.03.2024\n", units=Units(times="iso"))
         self.assertIn("read by what they are: dates='dd.mm.yyyy' (--dates)", told)
         self.assertIn("dates='dd/mm/yyyy', dates='mm/dd/yyyy' (--dates)", self.told("a;b;1;05/03/2024\n"))
         self.assertIn("what they are: dates='mm/dd/yyyy' (--dates)", self.told("a;b;1;12/31/2024 10:30:00\n"))
         self.assertIn("they count: dates='milliseconds', dates='microseconds' (--dates)", self.told("a;b;1;1709596800123\n",
-                                                                                                times="iso"))
+                                                                                                units=Units(times="iso")))
         self.assertIn("they count: dates='seconds', dates='milliseconds'", self.told("a;b;1;1709596800.25\n"))
         self.assertIn("what they are: dates='mm/dd/yyyy' (--dates)", self.told("a;b;1;12/31/2024\n", dates="dd/mm/yyyy"))
 
@@ -114,11 +116,11 @@ class Advice(Case):
             self.assertNotIn("BadWeight amount", told.replace("BadWeight: amount", ""))
             taken = "".join(f"a;b;{it};1\n" for it in weights.split() if it != "seven")
             (self.room / "a.csv").write_text(taken)
-            self.store().load(self.room / "a.csv", by="add", columns=ONE_TO_FOUR, delimiter=";", weight_scale=scale)
+            self.store().load(self.room / "a.csv", by="add", columns=ONE_TO_FOUR, delimiter=";", units=Units(weight_scale=scale))
         told = self.told("a;b;1,5;1\na;b;1,505;1\n")
         self.assertEqual(set(re.findall(r"weight_scale=\d+", told)), {"weight_scale=1000"})
-        self.assertIn("read by decimal=',' (--decimal ,)", self.told("a;b;1,5;1\n", weight_scale=100))
-        with self.assertRaisesRegex(misteluk.BadWeight, "weight_scale=1000 "):
+        self.assertIn("read by decimal=',' (--decimal ,)", self.told("a;b;1,5;1\n", units=Units(weight_scale=100)))
+        with self.assertRaisesRegex(misteluk.errors.BadWeight, "weight_scale=1000 "):
             self.store().insert("k", "a", "b", 0.125)
 
     def none(self, word: str, *rows: str, **options) -> None:
@@ -129,9 +131,9 @@ class Advice(Case):
     def test_none_that_was_followed_or_can_not_help(self):
         self.none("weight_scale", "a;b;seven;1", "a;b;1e3;1", "a;b;nan;1", "a;b;1.2.3;1", "a;b;+5;1", "a;b;99999999999999;1",
                   "a;b;0.1234567890123;1", "a;b;99999999999.5;1", "a;b;1,2,3;1", "a;b;0,1234567890123;1")
-        self.none("decimal=", "a;b;1,234;1", "a;b;1,2,3;1", weight_scale=100)
+        self.none("decimal=", "a;b;1,234;1", "a;b;1,2,3;1", units=Units(weight_scale=100))
         self.none("times=", "a;b;1;soon", "a;b;1;-5", "a;b;1;2024-02-30", "a;b;1;1969-12-31", "a;b;1;99999999999999999999")
-        self.none("dates=", "a;b;1;31.02.2024", "a;b;1;05.13.2024", "a;b;1;soon", "a;b;1;1e9", times="iso")
+        self.none("dates=", "a;b;1;31.02.2024", "a;b;1;05.13.2024", "a;b;1;soon", "a;b;1;1e9", units=Units(times="iso"))
         self.none("cp1252'", "M\u0081;b;1.5;1", encoding="windows-1252")
         with self.assertRaises(misteluk.BadRows) as fault:
             self.store().load([("a", "b", "1,5")], by="add")
@@ -141,27 +143,27 @@ class Advice(Case):
         """A comma stays one: 5.005 would be another number there."""
         for amount, told in (("5,005", "5,005"), ("-1.234,505", "-1234,505")):
             self.assertIn(f"amount '{told}': a weight has at most 2 decimals here",
-                          self.told(f"a;b;{amount};1\n", decimal=",", weight_scale=100))
-        self.assertIn("amount '5.005': a weight has", self.told("a;b;5.005;1\n", weight_scale=100))
+                          self.told(f"a;b;{amount};1\n", decimal=",", units=Units(weight_scale=100)))
+        self.assertIn("amount '5.005': a weight has", self.told("a;b;5.005;1\n", units=Units(weight_scale=100)))
         told = self.told("a;b;5,5;1\n", decimal=",")
         self.assertIn("amount '5,5': a weight is a whole number, of", told)
         self.assertIn("weight_scale=100 (--weight-scale 100)", told)
         path = self.file("a.csv", "a;b;5,005;1\n")
         with self.assertRaisesRegex(misteluk.BadRows, "amount '5,005'"):
-            list(self.store().follow(path, by="add", columns=ONE_TO_FOUR, decimal=",", weight_scale=100, until_end=True))
+            list(self.store().follow(path, by="add", columns=ONE_TO_FOUR, decimal=",", units=Units(100), until_end=True))
 
     def test_floats_that_were_worked_out(self):
         """Amounts of a frame that aren't round any more; those of a file, and a third decimal, aren't of that sort."""
         for amount, is_told in ((1.1 + 2.2, True), (69_215.979_999_999_98, True), (1.505, False), ("seven", False)):
             with self.assertRaises(misteluk.BadRows) as fault:
-                self.store().load([("a", "b", amount)], by="add", weight_scale=100)
+                self.store().load([("a", "b", amount)], by="add", units=Units(weight_scale=100))
             self.assertEqual("round them before, as by frame.round(2)" in str(fault.exception), is_told, amount)
-        self.none("round them", "a;b;3.3000000000000003;1", weight_scale=100)
-        self.store().load([("a", "b", round(1.1 + 2.2, 2))], by="add", weight_scale=100)
+        self.none("round them", "a;b;3.3000000000000003;1", units=Units(weight_scale=100))
+        self.store().load([("a", "b", round(1.1 + 2.2, 2))], by="add", units=Units(weight_scale=100))
 
     def test_a_header_where_columns_are_numbers(self):
         told = "\n  Line 1 may be a header, which is no row: header=True (--header)"
-        for options in ({}, {"weight_scale": 100, "decimal": ","}, {"times": "iso"}):
+        for options in ({}, {"units": Units(weight_scale=100), "decimal": ","}, {"units": Units(times="iso")}):
             self.assertEqual(self.told("from;to;amount;time of day\na;b;1;2024-05-01\n", **options).count(told), 1)
         self.none("header", "a;b;1.5x;1", "a;b;-;1", "a;b;;1")
         self.assertNotIn("header", self.told("a;b;1;1\na;b;seven;1\n"))
@@ -174,7 +176,7 @@ class Advice(Case):
         told = "\n  A time is read as dd.mm.yyyy here, a day that there is, or as 2024-05-01"
         for it in ("31.02.2024", "1.1.24", "soon"):
             self.assertIn(told, self.told(f"a;b;1;{it}\n", dates="dd.mm.yyyy", header=False))
-        self.none("is read as", "a;b;1;31.02.2024", times="iso")
+        self.none("is read as", "a;b;1;31.02.2024", units=Units(times="iso"))
         self.none("is read as", "a;b;1;soon", dates="seconds")
         self.none("is read as", "a;b;seven;1.1.2024", "a;b;1;31/01/2024", dates="dd.mm.yyyy")
         path = self.file("a.csv", "a;b;1;31.02.2024\n")
@@ -185,21 +187,21 @@ class Advice(Case):
     def test_none_for_a_call_that_it_can_not_help(self):
         store = self.store(seats=16)
         for call, word in ((lambda: store.insert("k", "a", "b", "seven"), "weight_scale"), (lambda: store.expire(-1), "times="),
-                           (lambda: store.insert("k", "a", "b", 1, "soon"), "times="), (lambda: store.open(16), "seats="),
+                           (lambda: store.insert("k", "a", "b", 1, "soon"), "times="), (lambda: store._open(16), "seats="),
                            (lambda: store.insert("k", "", "b"), "Any text"),
-                           (lambda: self.store(weight_scale=100).insert("k", "a", "b", "1.505"), "(--weight-scale")):
+                           (lambda: self.store(units=Units(weight_scale=100)).insert("k", "a", "b", "1.505"), "(--weight-scale")):
             with self.assertRaises(misteluk.Refused) as fault:
                 call()
             self.assertNotIn(word, str(fault.exception))
-        with self.assertRaisesRegex(misteluk.BadSlot, "seats=, or --seats; 16 at most"):
-            self.store(seats=2).open(15)
+        with self.assertRaisesRegex(misteluk.errors.BadSlot, "seats=, or --seats; 16 at most"):
+            self.store(seats=2)._open(15)
         held = [store.open() for _ in range(16)]
-        with self.assertRaises(misteluk.NoSeat) as told:
+        with self.assertRaises(misteluk.errors.NoSeat) as told:
             store.open()
         self.assertEqual((str(told.exception), len(held)), ("all 16 seats hold sessions: close one", 16))
 
     def advised(self, store, advice, **options) -> None:
-        with self.assertRaises(misteluk.PoolEmpty) as told:
+        with self.assertRaises(misteluk.errors.PoolEmpty) as told:
             store.commit(collect=False, **options)
         self.assertEqual(told.exception.advice, advice)
 
@@ -208,7 +210,7 @@ class Advice(Case):
         for it in ("weight_scale", "times=", "escape"):
             self.assertNotIn(it, told)
         self.assertNotIn("dates=", self.told("a;b;1;31.02.2024\n", dates="dd.mm.yyyy"))
-        told = self.told("a;b;1.234;1\n", decimal=",", weight_scale=100)
+        told = self.told("a;b;1.234;1\n", decimal=",", units=Units(weight_scale=100))
         self.assertIn("'1.234 (where decimals stand behind a comma)'", told)
         self.assertNotIn("decimal=", told)
         self.assertNotIn("weight_scale", told)
@@ -228,10 +230,10 @@ class Advice(Case):
     def test_blocks(self):
         """Twenty edges of twenty sources take a block each, and a batch of n asks for n more."""
         rows = [("a%d" % it, "b") for it in range(20)]
-        with self.assertRaises(misteluk.PoolEmpty) as fault:
+        with self.assertRaises(misteluk.errors.PoolEmpty) as fault:
             self.store(blocks=16).load(rows, by="set")
         self.assertIn("Make the store with blocks=20 or more; smaller batches don't help", fault.exception.advice)
-        with self.assertRaises(misteluk.PoolEmpty) as fault:
+        with self.assertRaises(misteluk.errors.PoolEmpty) as fault:
             self.store(blocks=22).load(rows * 2, by="set", batch=30)
         self.assertIn("Make the store with blocks=30 or more; a batch", fault.exception.advice)
         self.assertIn("batches of 2 fit (batch=2, --batch 2)", fault.exception.advice)

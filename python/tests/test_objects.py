@@ -9,7 +9,9 @@ from decimal import Decimal
 from support import Case, optional
 
 import misteluk
-from misteluk import Columns, Edge
+from misteluk import Columns, Edge, Units, errors
+from misteluk.feeds.objects import from_networkx
+from misteluk.feeds.opening import open_feed
 from misteluk.feeds import objects
 
 OF_TRANSFERS = Columns("from", "to", None, "amount", "when", "transfer")
@@ -39,18 +41,18 @@ class Graphs(Case):
         graph = networkx.DiGraph(name="g")
         graph.add_edge(1, "b", weight=7.0, time=9)
         graph.add_edge("b", "c", kind="other")
-        self.assertEqual(list(misteluk.from_networkx(graph).rows),
+        self.assertEqual(list(from_networkx(graph).rows),
                          [(1, "link", "1", "b", "7", "9"), (2, "other", "b", "c", "1", "0")])
-        both = misteluk.from_networkx(networkx.Graph([(1, 2), (3, 3)]))
+        both = from_networkx(networkx.Graph([(1, 2), (3, 3)]))
         self.assertEqual([it[2:4] for it in both.rows], [("1", "2"), ("2", "1"), ("3", "3")])
-        one = misteluk.from_networkx(networkx.Graph([(1, 2)]), both_ways=False)
+        one = from_networkx(networkx.Graph([(1, 2)]), both_ways=False)
         self.assertEqual(len(list(one.rows)), 1)
-        with self.assertRaisesRegex(misteluk.FeedFault, "two nodes of the graph have one name"):
-            misteluk.from_networkx(networkx.Graph([(1, "1")]))
+        with self.assertRaisesRegex(misteluk.errors.FeedFault, "two nodes of the graph have one name"):
+            from_networkx(networkx.Graph([(1, "1")]))
 
     def test_a_graph_comes_back(self):
         """With the recent time of each edge; a name that has no edge is told of, and isn't loaded."""
-        dates = {"weight_scale": 100, "times": "iso"}
+        dates = {"units": Units(weight_scale=100, times="iso")}
         store = misteluk.Store(**dates)
         self.addCleanup(self.let_go, store)
         store.insert("road", "a", "b", "2.50", "2024-03-04")
@@ -63,7 +65,7 @@ class Graphs(Case):
             graph, wanted = session.to_networkx(), list(session.edges())
         copy = misteluk.Store(**dates)
         self.addCleanup(self.let_go, copy)
-        with self.assertWarnsRegex(misteluk.LeftOut, "1 node of the graph, 'c', has no edge: a store has the names of edges"):
+        with self.assertWarnsRegex(errors.LeftOut, "1 node of the graph, 'c', has no edge: a store has the names of edges"):
             copy.load(graph, by="set")
         self.assertEqual(list(copy.open().edges()), wanted)
 
@@ -74,8 +76,8 @@ class Graphs(Case):
         graph.add_edge("a", "b", first=1, recent=5)
         graph.add_edge("a", "c", first=1, recent=5, time=7)
         graph.add_edge("a", "d", recent=True)
-        self.assertEqual([it[5] for it in misteluk.from_networkx(graph).rows], ["5", "7", "0"])
-        self.assertEqual([it[5] for it in misteluk.from_networkx(graph, time="first").rows], ["1", "1", "0"])
+        self.assertEqual([it[5] for it in from_networkx(graph).rows], ["5", "7", "0"])
+        self.assertEqual([it[5] for it in from_networkx(graph, time="first").rows], ["1", "1", "0"])
 
     def test_columns_that_no_one_named_are_told_of(self):
         """A table with a column `weight` looks as if that were read; it is where it is named."""
@@ -84,7 +86,7 @@ class Graphs(Case):
         for data, told in ((table, r"Columns\(weight='weight', time='time'\), or --weight weight --time time"),
                            ([row], r"Columns\(kind='kind'\), or --kind-column kind"), (file, r"rows.csv: only the columns")):
             store = self.store()
-            with self.assertWarnsRegex(misteluk.LeftOut, told):
+            with self.assertWarnsRegex(misteluk.errors.LeftOut, told):
                 store.load(data, by="set")
             self.assertEqual(list(store.open().edges()), [("link", "a", "b", Edge(1, 0, 0))])
         with warnings.catch_warnings():
@@ -97,8 +99,8 @@ class Graphs(Case):
         import networkx
         graph = networkx.DiGraph([("a", "b"), ("c", "c")])
         graph.add_nodes_from(["x", 7])
-        with self.assertWarnsRegex(misteluk.LeftOut, "2 nodes of the graph, as 'x', have no edge"):
-            misteluk.from_networkx(graph)
+        with self.assertWarnsRegex(misteluk.errors.LeftOut, "2 nodes of the graph, as 'x', have no edge"):
+            from_networkx(graph)
 
     def test_missing_values_are_bad_rows(self):
         """A node or attribute that stands for no value is refused as an empty field of a file is, by its row and field."""
@@ -126,7 +128,7 @@ class Frames(Case):
         import pandas
         frame = pandas.read_csv(io.StringIO("from,to,amount,when\nana,funnel,980.0,2024-05-01\n"), parse_dates=["when"])
         store = self.store()
-        store.load(frame, by="add", columns=OF_TRANSFERS, times="iso")
+        store.load(frame, by="add", columns=OF_TRANSFERS, units=Units(times="iso"))
         session = store.open()
         when = datetime.datetime(2024, 5, 1, tzinfo=datetime.timezone.utc)
         self.assertEqual(session.edge("transfer", "ana", "funnel"), Edge(980, when, when))
@@ -145,7 +147,7 @@ class Frames(Case):
         frame.to_csv(path, index=False)
         for feed, before in ((frame, 0), (str(path), 1)):
             with self.assertRaises(misteluk.BadRows) as told:
-                self.store().load(feed, by="add", columns=OF_TRANSFERS, times="iso", weight_scale=100)
+                self.store().load(feed, by="add", columns=OF_TRANSFERS, units=Units(times="iso", weight_scale=100))
             found = [(it.place.line - before, it.field) for it in told.exception.faults]
             self.assertEqual(found, [(2, "target"), (3, "source"), (4, "amount"), (5, "source"), (5, "time"), (6, "time")])
 
@@ -153,13 +155,13 @@ class Frames(Case):
 class Rows(Case):
     def rows(self, wanted: str, data, **options) -> None:
         """Whether what is given has these rows: a line each, its fields parted by a space."""
-        feed = misteluk.open_feed(data, **options)
+        feed = open_feed(data, **options)
         self.assertEqual("\n".join(" ".join(map(str, it)) for it in feed.rows), wanted)
 
     def test_tuples(self):
         self.rows("1 link a b 1 0\n2 link c d 1 0", [("a", "b"), ("c", "d")])
         self.rows("1 link a b 5 0", [("a", "b", 5)])
-        self.rows("1 road a b 5 2024-05-01", iter([["a", "b", 5.0, date(2024, 5, 1)]]), columns=Columns(usual_kind="road"))
+        self.rows("1 road a b 5 2024-05-01", iter([["a", "b", 5.0, date(2024, 5, 1)]]), columns=Columns(default_kind="road"))
         self.rows("1 road a b 5 7\n2 link 1 2 3 4", [("a", "b", 5, 7, "road"), (1, 2, 3, 4, "link")])
         self.rows("1 link b a 1 9", [("a", 9, "b")], columns=Columns(3, 1, time=2))
         self.rows("", [])
@@ -186,7 +188,7 @@ class Rows(Case):
         self.bad([(2, "source")], {"source": ["a", float("nan")], "target": ["b", "c"]})
 
     def fault(self, told: str, data, **options) -> None:
-        with self.assertRaises(misteluk.FeedFault) as fault:
+        with self.assertRaises(misteluk.errors.FeedFault) as fault:
             self.store().load(data, by="set", **options)
         self.assertIn(told, str(fault.exception))
 

@@ -1,6 +1,7 @@
 """The package: what pip makes of it, what a wheel has, how the program is found, and what `help(misteluk)` shows."""
 import base64
 import csv
+import dataclasses
 import email
 import hashlib
 import importlib.util
@@ -16,12 +17,15 @@ import unittest
 import zipfile
 from unittest import mock
 
-from support import HERE, TOP, Case, find_program, optional
+from support import HERE, IS_REPOSITORY, NO_REPOSITORY, TOP, Case, find_program, optional
 
 import misteluk
-from misteluk import errors, find_library
+from misteluk import errors
+from misteluk.engine.finding import find_library
 from misteluk.command.doctor import look, made
 from misteluk.engine.interface import INTERFACE
+from misteluk.feeds.opening import ReadAs
+from misteluk.options import ReadOptions
 
 sys.path.insert(0, str(HERE.parent))
 sys.dont_write_bytecode = True
@@ -33,6 +37,20 @@ HAS_PIP = importlib.util.find_spec("pip") is not None
 def run(*words, **how):
     how = {"stdout": subprocess.PIPE, "stderr": subprocess.STDOUT, "text": True, "timeout": 120, **how}
     return subprocess.run([str(it) for it in words], **how)
+
+
+# The names of the package, and of the calls of stores and sessions, before those of a first release.
+WERE_PUBLIC = """Store Session Part Limits connect connect_async Served AwaitedSession load survey load_in_steps Loaded Survey
+    follow Following Followed Rejected Columns ReadAs Feed open_feed delimited snap matrix_market from_networkx from_pandas
+    from_columns from_rows Answer Components Edges Diff Changed Collected Commit Degree Edge Neighbor Rebased Renewed Saved
+    Stat view View find_library find_program StoreError Refused Place AlreadyOpen BadCommand BadFields BadName BadRows
+    BadSlot BadTime BadWeight BadWindow BatchFull BatchLimit Busy FeedFault JournalError JournalFault KindsFull LeftOut
+    LibraryNotFound Locked Misread Missing NamesFull NoAnswer NoKind NoMemory NoSeat NoServer NoVertex NotAllowed NotOpen
+    NotWritten OverLimit PoolEmpty ProgramNotFound ReadOnly SaveFault SequenceTaken SessionClosed TooLarge Uncommitted""".split()
+HAD_CALLS = """is_open must_be_open levels components cores degrees weights_in edge edges edges_columns edges_frame to_networkx
+    to_igraph to_scipy to_csv diff edges_out_of edges_into out_of into neighbors path within save close insert add remove
+    expire blocks pending kinds units discard commit load follow restore at stat collect open rebase renew file renewals
+    operations_kept is_closed kill""".split()
 
 
 class Wheels(Case):
@@ -144,7 +162,8 @@ class Installs(Case):
         before = self.listing()
         self.install(self.top / "python")
         self.assertEqual(self.listing(), before)
-        told = self.ask("import misteluk; print(misteluk.find_program()); print(misteluk.Store().stat().free)")
+        told = self.ask("from misteluk import Store; from misteluk.engine.finding import find_program as f; "
+                        "print(f(), Store().stat().free, sep=chr(10))")
         self.assertIn(f"{self.there}/misteluk/bin/stinger\n", told)
         self.assertTrue(told.endswith("65536\n"), told)
         self.assertEqual((self.there / "misteluk/lib/libmisteluk.so").read_bytes(), pathlib.Path(find_library()).read_bytes())
@@ -188,7 +207,7 @@ class Installs(Case):
         with mock.patch.object(misteluk.Session, "edge", lambda *_: misteluk.Edge(2, 0, 0)):
             told, is_well = look()
         self.assertEqual((told[-2], is_well), (f"{blocks} WRONGLY", False))
-        with mock.patch.object(misteluk.Store, "open", side_effect=misteluk.NoMemory("no room")):
+        with mock.patch.object(misteluk.Store, "open", side_effect=misteluk.errors.NoMemory("no room")):
             told, is_well = look()
         self.assertEqual((told[-1], is_well), ("no store can be made: no room", False))
 
@@ -286,7 +305,8 @@ class Help(Case):
             self.assertTrue(inspect.getdoc(it) or issubclass(it, errors.Refused), name)
         known = {name for name, it in vars(errors).items() if inspect.isclass(it) and it.__module__ == errors.__name__
                  and issubclass(it, Exception)}
-        self.assertEqual(known - set(misteluk.__all__), set())
+        self.assertEqual(known & set(misteluk.__all__), {"BadRows", "JournalError", "NoVertex", "Refused", "SessionClosed",
+                                                         "StoreError"})
         told = pydoc.plain(pydoc.render_doc(misteluk))
         for wrong in ("TYPE_CHECKING", "NamedTuple(", "class Dict", "Optional ="):
             self.assertNotIn(f"\n    {wrong}", told)
@@ -294,12 +314,30 @@ class Help(Case):
 
     def test_options_have_names(self):
         """A load's options, for completion: those that a feed is opened by, in each of the calls that take them."""
-        opened = set(inspect.signature(misteluk.open_feed).parameters)
-        self.assertLess(set(misteluk.ReadAs._fields), opened)
-        for call in (misteluk.load, misteluk.survey, misteluk.Store.load):
+        options = {it.name for it in dataclasses.fields(ReadAs)}
+        self.assertEqual(set(ReadOptions.__annotations__), options)
+        for call in (misteluk.survey, misteluk.Store.load, misteluk.Store.follow):
             told = inspect.signature(call).parameters
-            self.assertEqual(opened - set(told), {"data"} if call == misteluk.Store.load else set())
+            self.assertLess(options, set(told))
             self.assertEqual([it for it in told.values() if it.kind == it.VAR_KEYWORD], [])
+            self.assertEqual([it for it in options if f"`{it}" not in (call.__doc__ or "")], [])
+        with misteluk.Store() as store, self.assertRaisesRegex(TypeError,
+                                                               "no option 'colums': .* columns, format, delimiter, header"):
+            store.load([("a", "b")], by="set", colums=None)
+
+    @unittest.skipUnless(IS_REPOSITORY, NO_REPOSITORY)
+    def test_the_table_of_names(self):
+        """CHANGELOG has each name that was public and isn't, with what is there now; what is there is public."""
+        text = (TOP / "CHANGELOG.md").read_text(encoding="utf-8")
+        rows = [line.strip().strip("|").rsplit(" | ", 1) for line in text.splitlines() if re.match(r" *\| ", line)]
+        cells = (re.findall(r"`[^`]*`", " ".join(it[at] for it in rows)) for at in (0, 1))
+        old, new = (set(re.findall(r"\b[A-Za-z_]+\b", " ".join(it))) for it in cells)
+        public = set(misteluk.__all__)
+        self.assertEqual(set(WERE_PUBLIC) - old - public, set())
+        self.assertEqual(public - set(WERE_PUBLIC) - new, set())
+        calls = {it for kind in (misteluk.Store, misteluk.Session) for it in vars(kind) if not it.startswith("_")}
+        self.assertEqual(calls - set(HAD_CALLS) - new, set())
+        self.assertEqual(set(HAD_CALLS) - calls - old, set())
 
 
 if __name__ == "__main__":

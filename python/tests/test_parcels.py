@@ -112,7 +112,8 @@ class Steps(unittest.TestCase):
                  "their limits; newest 5")):
             step = Followed(commit, rows, bad, line, newest)
             self.assertEqual((str(step), step.last_bad, step.behind), (f"version 3: {told}", None, None))
-        self.assertEqual(Followed(Commit(1, 0, 0, 0, 0, 0), 0, 1, 0, 0, Rejected(4, "why", "a,b"))[5:], ((4, "why", "a,b"), None))
+        last = Followed(Commit(1, 0, 0, 0, 0, 0), 0, 1, 0, 0, Rejected(4, "why", "a,b"))
+        self.assertEqual((last.last_bad.line, last.last_bad.reason, last.last_bad.text, last.behind), (4, "why", "a,b", None))
 
     def test_where_a_feed_begins(self):
         self.assertEqual(FeedPlace(), (0, 0, -1, 0, "", 0, 0))

@@ -16,12 +16,13 @@ from collections import defaultdict
 from support import TOP, Case, optional
 
 import misteluk
-from misteluk import BadRows, BadWeight, Columns, NoAnswer, OverLimit, Part, Place, PoolEmpty, Store
+from misteluk import BadRows, Columns, Part, Store, Units
+from misteluk.errors import BadWeight, NoAnswer, OverLimit, Place, PoolEmpty
 from misteluk.errors import Missing, refusal
 
 os.environ.setdefault("DASK_DISTRIBUTED__WORKER__MULTIPROCESSING_METHOD", "forkserver")  # (in a third of the time)
 PARTS, ROWS, WORKERS = 40, 1_500, 4
-HOW = {"by": "add", "columns": Columns(1, 2, weight=3, time=4), "weight_scale": 100, "times": "iso"}
+HOW = {"by": "add", "columns": Columns(1, 2, weight=3, time=4), "units": Units(weight_scale=100, times="iso")}
 PAGE, ADDRESS = TOP / "docs/FLEET.md", "tcp://scheduler:8786"
 
 
@@ -75,14 +76,14 @@ class Parts(Case):
         rows = next(iter(made_rows().values()))
         part = self.part(rows, **HOW)
         self.assertEqual(part.ask(tables), alone(rows))
-        self.assertEqual(part.ask("edges"), alone(rows)[2])
+        self.assertEqual(list(part.ask("edges")), alone(rows)[2])
         self.assertEqual(part.ask(lambda session, name, more: session.degrees()[name].out + more, "ana", more=5),
                          dict(alone(rows)[1][0])["ana"].out + 5)
         self.assertRaises(misteluk.NoVertex, part.ask, "levels", "nobody")
         self.assertEqual((repr(part), part.loaded.commit.batches), (f"<Part of {part.loaded.survey}>", 1))
 
     def test_a_copy_is_another_store_of_the_same_rows(self):
-        part = self.part([("a", "b", "0.50")], {"decimals": "float"}, by="add", weight_scale=100)
+        part = self.part([("a", "b", "0.50")], {"units": Units(decimals="float")}, by="add", units=Units(weight_scale=100))
         for again in (pickle.loads(pickle.dumps(part)), copy.copy(part)):
             self.addCleanup(again.close)
             self.assertIsNot(again.session.store, part.session.store)

@@ -15,14 +15,14 @@ from serving import ServeCase
 from support import IS_SERVED, Case, optional
 
 import misteluk
-from misteluk import Session
+from misteluk import Session, Units
 from misteluk.values.arrays import ReadOnlyArray
 
 numpy, pandas, igraph, networkx = map(optional, ("numpy", "pandas", "igraph", "networkx"))
 # How deep in an answer is what is written to.
 DEEPEST = 5
 # What is asked again after each call.
-AGAIN = {"edges_columns": (), "degrees": (), "components": (), "out_of": ("a",), "into": ("a",)}
+AGAIN = {"edges": (), "degrees": (), "components": (), "successors": ("a",), "predecessors": ("a",)}
 PLAIN = (str, int, float, bytes, Decimal, date, type(None), slice)
 
 
@@ -77,7 +77,7 @@ class Writer:
             part = getattr(it, name)
             try:
                 yield part() if callable(part) else part
-            except (TypeError, AttributeError, misteluk.Missing):  # (it needs an argument, or a package)
+            except (TypeError, AttributeError, misteluk.errors.Missing):  # (it needs an argument, or a package)
                 pass
 
     def items(self, it, deep):
@@ -142,12 +142,12 @@ class ReadOnly(Asking, Case):
         names = {it for it in dir(self.store(*ROWS).open()) if not it.startswith("_")}
         tried = {it for it, *_ in calls("")}
         self.assertEqual(names - tried - NO_ANSWERS, {it for it, package in (
-            ("edges_frame", pandas), ("to_networkx", networkx), ("to_igraph", igraph), ("to_scipy", optional("scipy")))
+            ("a frame", pandas), ("to_networkx", networkx), ("to_igraph", igraph), ("to_scipy", optional("scipy")))
             if not package})
 
     def test_answers_of_a_store(self):
         self.assertEqual(self.wrong(self.store(*ROWS, seats=3).open), [])
-        store = self.store(weight_scale=10, seats=3)
+        store = self.store(units=Units(weight_scale=10), seats=3)
         for it in ROWS:
             store.add(*it.split()[1:4], it.split()[4], int(it.split()[5]))
         store.commit()
@@ -167,18 +167,18 @@ class ReadOnly(Asking, Case):
         with misteluk.Store.restore(self.room / "saved.csv") as restored:
             self.assertEqual(self.all_told(asked_by(restored.open()), but), wanted)
         if not IS_SERVED:
-            store.rebase(session)
+            store.compact(session)
             self.assertEqual(self.all_told(asked_by(store.open()), but), wanted)
 
 
 class OfServers(Asking, ServeCase):
     def test_answers_of_a_server_s_store(self):
         self.fed(*(["add", *it.split()[1:4], *map(int, it.split()[4:])] for it in ROWS))
-        with misteluk.Served(self.server.url) as store:
+        with misteluk.connect(self.server.url) as store:
             self.assertEqual(self.wrong(store.open), [])
             loop = asyncio.new_event_loop()
             self.addCleanup(loop.close)
-            self.assertEqual(self.wrong(store.open, lambda it: awaited(misteluk.AwaitedSession(it), loop)), [])
+            self.assertEqual(self.wrong(store.open, lambda it: awaited(misteluk.AsyncSession(it), loop)), [])
 
 
 class Arrays(Case):
@@ -219,15 +219,15 @@ class Arrays(Case):
 
     def test_answers_go_to_other_processes(self):
         """Edges, tables and arrays are as they were, once they were pickled."""
-        session = self.store(*ROWS, weight_scale=10).open()
-        for it in (session.edges_columns(), session.degrees(), session.components(), session.edges_columns().weight,
+        session = self.store(*ROWS, units=Units(weight_scale=10)).open()
+        for it in (session.edges(), session.degrees(), session.components(), session.edges().weight,
                    session.diff(session)):
             copy = pickle.loads(pickle.dumps(it))
             self.assertEqual((type(copy), plain(copy)), (type(it), plain(it)))
 
     @unittest.skipUnless(numpy and pandas, "numpy and pandas are not there")
     def test_a_frame_is_the_user_s(self):
-        for units in ({}, {"weight_scale": 10, "decimals": "float"}, {"times": "iso"}):
+        for units in ({}, {"units": Units(weight_scale=10, decimals="float")}, {"units": Units(times="iso")}):
             session = self.store(*(() if units else ROWS), **units).open()
             if units:
                 session.store.add("k", "a", "b", 2)
@@ -235,7 +235,7 @@ class Arrays(Case):
                 session = session.store.open()
             with warnings.catch_warnings():
                 warnings.simplefilter("error")
-                for frame in (session.edges_frame(), session.degrees().frame()):
+                for frame in (session.edges().frame(), session.degrees().frame()):
                     name = next(it for it in frame if it.startswith("weight"))
                     wanted = [it * 2 for it in frame[name]]
                     frame[name] *= 2

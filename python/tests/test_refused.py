@@ -2,14 +2,16 @@
 
 A version opened afterwards has what one has that was opened before; and what is pending goes in once there is room for it.
 """
+from dataclasses import replace
 import contextlib
 import unittest
 from unittest import mock
 
-from support import Case
+from support import Case, row
 
 import misteluk
-from misteluk import KindsFull, Limits, NamesFull, NoMemory, PoolEmpty
+from misteluk import Limits
+from misteluk.errors import KindsFull, NamesFull, NoMemory, PoolEmpty
 from misteluk.engine import library
 from misteluk.engine.interface import Code
 from misteluk.values import limits
@@ -37,8 +39,8 @@ REFUSALS = {
     "idle names, and blocks": ({"limits": Limits(vertices=30, kinds=1), "blocks": 16, "endless": True},
                                [f"insert k i{it} t 1 1" for it in range(14)] + [f"remove k i{it} t" for it in range(10)],
                                [f"insert k m{it} t 1 9" for it in range(20)], PoolEmpty),
-    "a batch too many, and names": ({"limits": FULL._replace(batches=1)}, USED[:1], FIVE, NamesFull),
-    "a batch too many, and kinds": ({"limits": FULL._replace(batches=1), "endless": True}, USED[:1],
+    "a batch too many, and names": ({"limits": replace(FULL, batches=1)}, USED[:1], FIVE, NamesFull),
+    "a batch too many, and kinds": ({"limits": replace(FULL, batches=1), "endless": True}, USED[:1],
                                     [f"insert z{it} a b 1 3" for it in range(3)], KindsFull),
     "a batch too many, and blocks": ({"limits": Limits(batches=1), "blocks": 16}, USED[:1], TWENTY, PoolEmpty),
 }
@@ -46,13 +48,14 @@ REFUSALS = {
 
 def seen(store, sessions):
     """All that can be seen of a store and its sessions, and of a session of its last version."""
-    own = (store.stat(), store.pending, store.ledger.told_pending, store.kinds, store.units, store.blocks, store.operations_kept,
-           store.renewals, store.engine.open_count)
+    own = (store.stat(), store.pending, store._ledger.told_pending, store.kinds, store.units, store.blocks,
+           store._engine.operations_kept, store._engine.open_count)
     found = []
     for it in sessions:
-        edges = it.edges_columns()
-        found.append((it.version, it.is_open, it.names, list(edges.names), list(edges.kinds), list(edges), dict(it.degrees()),
-                      dict(it.components()), dict(it.cores()), dict(it.levels("a")) if "a" in it else None))
+        edges = it.edges()
+        found.append((it.version, it.is_open, it.vertices(), list(edges.names), list(edges.kinds), list(edges),
+                      dict(it.degrees()),
+                      dict(it.components()), dict(it.cores()), dict(it.levels("a")) if it.has_vertex("a") else None))
     return own, found
 
 
@@ -66,7 +69,7 @@ def smaller_walls(most):
 
 class Refusals(Case):
     def let_go(self, store):
-        store.kill()
+        store._kill()
 
     def give(self, store, operations):
         for it in operations:
@@ -131,7 +134,7 @@ class Refusals(Case):
                 self.feed(store, "insert k a last 1 9")
                 self.give(store, FIVE[:2])
                 if endless:  # (it lets `b3` go)
-                    self.assertEqual((store.commit().inserted, store.stat().names), (2, 19))
+                    self.assertEqual((store.commit().inserted, store.stat().vertices), (2, 19))
                 else:
                     self.assertRaises(NamesFull, store.commit)
                 self.assertEqual([len(list(it.edges())) for it in sessions], list(range(1, 17)))
@@ -155,7 +158,7 @@ class Refusals(Case):
                     store = self.store("insert k a b 1 1", "insert k b c 1 1", **options)
                     self.give(store, operations)
                     sessions = [store.open()]
-                    before, of = seen(store, sessions), store.engine.library
+                    before, of = seen(store, sessions), store._engine.library
                     with mock.patch.object(of, name, out_after(calls, getattr(of, name))):
                         self.assertRaises(NoMemory, store.commit)
                     self.assertEqual(seen(store, sessions), before)
@@ -164,11 +167,11 @@ class Refusals(Case):
     def test_a_load(self):
         """Its batches before the refused one are in, and nothing of that one."""
         rows, how = [("x", "y"), ("y", "x"), ("x", "z"), ("z", "y")], {"by": "set", "columns": misteluk.Columns(1, 2)}
-        store, other = (self.store(*IDLE, limits=FULL._replace(kinds=3), endless=True) for _ in range(2))
+        store, other = (self.store(*IDLE, limits=replace(FULL, kinds=3), endless=True) for _ in range(2))
         with self.assertRaisesRegex(NamesFull, "lines 3 to 4 was refused, .* 2 rows before it are"):
             store.load(rows, batch=2, **how)
         other.load(rows[:2], **how)
-        self.assertEqual(other.stat()[:3], (2, 4, 3))
+        self.assertEqual(row(other.stat())[:3], (2, 4, 3))
         self.assertEqual(seen(store, [store.open()]), seen(other, [other.open()]))
 
 

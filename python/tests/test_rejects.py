@@ -11,14 +11,14 @@ from unittest import mock
 from support import Case, CommandCase, as_soon_as
 
 import misteluk
-from misteluk import Columns, Rejected
+from misteluk import Columns, Rejected, Units, errors
 from misteluk.feeds import rejects
 
 ROWS = {"by": "add", "columns": Columns(1, 2, weight=3, time=4), "progress": False}
 NO_NUMBER = "amount 'x': a weight is a whole number, of at most 19 digits"
 NO_NAME = "target '': a name has at least one byte"
 BANK = {"by": "add", "columns": Columns("Payer", "Payee", weight="Sum", time="Day"), "decimal": ",", "dates": "dd.mm.yyyy",
-        "weight_scale": 100, "progress": False}
+        "units": Units(weight_scale=100), "progress": False}
 HEAD = "Day;Payer;Payee;Note;Sum\n"
 GOOD = "04.03.2024;ana;bob;;1.234,50\n"
 
@@ -38,7 +38,7 @@ class Rejects(Case):
         return (self.room / name).read_text()
 
     def load(self, feed, **options):
-        store = self.store(blocks=64, **({"times": "iso", "weight_scale": 100} if "dates" in options else {}))
+        store = self.store(blocks=64, **({"units": Units(times="iso", weight_scale=100)} if "dates" in options else {}))
         return store, store.load(feed, **options)
 
     def test_the_last_bad_row_is_told(self):
@@ -117,9 +117,9 @@ class Rejects(Case):
         path = self.file("bank.csv", f"{HEAD}{GOOD}05.03.2024;bob;;;1\n")
         for fault, told, name in ((ValueError, "is the feed itself", path), (ValueError, "aren't packed", "r.csv.gz"),
                                   (OSError, "No such file", str(self.room / "none" / "r.csv")),
-                                  (misteluk.FeedFault, "No space left on device.*line 3 on aren't in", "/dev/full"),
-                                  (misteluk.FeedFault, "has another header", self.file("r.csv", "Day;Payer;line;reason\n"))):
-            store = self.store(blocks=64, times="iso", weight_scale=100)
+                                  (misteluk.errors.FeedFault, "No space left on device.*line 3 on aren't in", "/dev/full"),
+                                  (errors.FeedFault, "has another header", self.file("r.csv", "Day;Payer;line;reason\n"))):
+            store = self.store(blocks=64, units=Units(times="iso", weight_scale=100))
             self.assertRaisesRegex(fault, told, store.load, path, rejects=name, **BANK)
             self.assertEqual(store.stat().edges, 0)
         self.assertEqual(self.rows_in("r.csv"), "Day;Payer;line;reason\n")
@@ -134,7 +134,7 @@ class Rejects(Case):
             os.write(file, data[:5])
             raise OSError(errno.ENOSPC, "No space left on device")
         with mock.patch.object(rejects.Rejects, "_write", classmethod(half)):
-            self.assertRaises(misteluk.FeedFault, self.store().load, path, rejects=self.room / "r.csv", **ROWS)
+            self.assertRaises(misteluk.errors.FeedFault, self.store().load, path, rejects=self.room / "r.csv", **ROWS)
         self.assertEqual(self.rows_in("r.csv"), f"b,,3,3,2,{NO_NAME}\n")
 
 
@@ -193,7 +193,7 @@ class FollowedFeeds(Case):
         followed = self.follow(self.file("f.csv", "a,b,1,1\nb,c,1,1\nc,,1,1\nd,e,1,1\n"), rejects="/dev/full", until_end=True)
         step = next(followed)
         self.assertEqual((step.rows, step.line, step.bad, step.last_bad), (2, 2, 0, None))
-        self.assertRaisesRegex(misteluk.FeedFault, "No space left on device.*the rows from line 3 on aren't in", next, followed)
+        self.assertRaisesRegex(errors.FeedFault, "No space left on device.*the rows from line 3 on aren't in", next, followed)
         self.assertEqual(followed.store.stat().edges, 2)
         path = self.file("g.csv", "a,b,1,1\n")
         self.assertRaisesRegex(ValueError, "is the feed itself", self.follow, path, rejects=path)
@@ -203,16 +203,16 @@ class FollowedFeeds(Case):
         """Where edges are kept for a time it is a bad row, and removes nothing; else it is one if a length is said."""
         text = f"a,b,1,{shifted(hours=-2)}\nc,d,1,2255-01-01\ne,f,1,{shifted(hours=20)}\ng,h,1,{shifted(hours=30)}\n"
         path = self.file("f.csv", text)
-        (step,) = self.follow(path, keep="14d", times="iso", skip_bad=True, until_end=True)
+        (step,) = self.follow(path, keep="14d", units=Units(times="iso"), skip_bad=True, until_end=True)
         self.assertEqual((step.rows, step.bad, step.commit.expired, step.last_bad.line), (2, 2, 0, 4))
         self.assertRegex(step.last_bad.reason, "^time '.*': a time is at most 24 hours ahead of the clock here, and this is "
                          "(29|30) hours ahead")
-        followed = self.follow(path, keep="14d", times="iso", until_end=True)
+        followed = self.follow(path, keep="14d", units=Units(times="iso"), until_end=True)
         self.assertEqual(next(followed).rows, 1)
         self.assertRaisesRegex(misteluk.BadRows, r"f.csv:2: BadTime: time '2255-01-01': .* and this is 2\d\d years ahead",
                                next, followed)
         for options, rows in (({}, 4), ({"keep": "14d", "ahead": "2d"}, 3), ({"ahead": "1h"}, 1), ({"ahead": "90000d"}, 4)):
-            (step,) = self.follow(path, times="iso", skip_bad=True, until_end=True, **options)
+            (step,) = self.follow(path, units=Units(times="iso"), skip_bad=True, until_end=True, **options)
             self.assertEqual(step.rows, rows, options)
 
     def test_numbers_have_no_clock(self):
@@ -221,7 +221,8 @@ class FollowedFeeds(Case):
         self.assertEqual((step.rows, step.bad), (2, 0))
         for ahead in (5, "1d"):
             self.assertRaisesRegex(ValueError, "ahead is for times that are dates", self.follow, path, ahead=ahead)
-        self.assertRaisesRegex(ValueError, "ahead is a length of time, as 14d", self.follow, path, ahead=3, times="iso")
+        self.assertRaisesRegex(ValueError, "ahead is a length of time, as 14d", self.follow, path, ahead=3,
+                               units=Units(times="iso"))
 
     def test_a_file_that_is_written_anew(self):
         """It isn't read on amid a row, also where it is longer than it was by the next look, or begins as it did."""
@@ -235,7 +236,7 @@ class FollowedFeeds(Case):
             with open(path, "r+") as file:  # (in its place, as a program does that cuts it and writes on)
                 file.truncate(0)
                 file.write(after)
-            self.assertRaisesRegex(misteluk.FeedFault, "f.csv was written anew while it was followed", next, followed)
+            self.assertRaisesRegex(misteluk.errors.FeedFault, "f.csv was written anew while it was followed", next, followed)
             self.assertEqual(followed.store.stat().edges, count)
 
     def test_a_file_that_grows_is_the_same(self):

@@ -170,7 +170,8 @@ class Releases(Case):
     def from_the_archive(self, there):
         """The client of the archive finds its program by itself."""
         env = {it: value for it, value in os.environ.items() if not it.startswith("MISTELUK_")} | {"PYTHONPATH": "python"}
-        code = "import misteluk; print(misteluk.find_program()); print(misteluk.Store(blocks=64).stat().free)"
+        code = ("from misteluk import Store; from misteluk.engine.finding import find_program as f; "
+                "print(f(), Store(blocks=64).stat().free, sep=chr(10))")
         told = run(sys.executable, "-c", code, cwd=there, env=env, stderr=subprocess.DEVNULL).stdout
         self.assertEqual(told, f"{there}/bin/stinger\n64\n")
 
@@ -203,7 +204,8 @@ class Releases(Case):
         env = {"PATH": "", "HOME": str(self.room), "MISTELUK_PROGRAM": "", "MISTELUK_LIBRARY": ""}
         told = run(home / "bin/misteluk", "--help", cwd="/", env=env)
         self.assertEqual((told.returncode, told.stdout.split()[:2]), (0, ["usage:", "misteluk"]), told.stdout)
-        code = ("import misteluk; print(misteluk.find_program()); s = misteluk.Store(blocks=16); s.insert('k', 'a', 'b', 2); "
+        code = ("import misteluk; from misteluk.engine.finding import find_program as f; print(f()); "
+                "s = misteluk.Store(blocks=16); s.insert('k', 'a', 'b', 2); "
                 "print(s.commit().inserted, s.open().edge('k', 'a', 'b').weight)")
         told = run(home / "bin/python", "-c", code, cwd="/", env=env).stdout.splitlines()
         (program,) = home.glob("lib/python3.*/site-packages/misteluk/bin/stinger")

@@ -3,6 +3,7 @@
 Graphs are random, with removals, expiries, windows, loads and held sessions, beside a model in plain dicts. Comparisons are made
 again with faults that are planted, and have to find them.
 """
+from dataclasses import replace
 import gzip
 import hashlib
 import itertools
@@ -11,10 +12,10 @@ import unittest
 from unittest import mock
 
 from graphs import NAMES, Play
-from support import Case, find_program
+from support import Case, find_program, row
 
 import misteluk
-from misteluk import Store, names, saving
+from misteluk import Store, Units, names, saving
 from misteluk.engine import copies as copying
 from misteluk.engine.protocol import WHOLE
 from misteluk.engine.operations import INSERT, Numbered, Operations
@@ -26,22 +27,22 @@ ENDINGS = ("", ".gz", ".xz", ".bz2")
 
 def answers_of(session, of_names):
     """What a session says to every request, and in which order, but for neighbors: those come as the blocks have them."""
-    told, store = [session.store.kinds, session.store.units, len(session)], session.store
+    told, store = [session.store.kinds, session.store.units, session.edge_count], session.store
     asks = ((session.degrees,), (session.components,), (session.cores,), (session.weights_in,),
             *((ask, it) for it in of_names for ask in (session.levels, session.neighbors)))
     for kind, (since, until), (ask, *given) in itertools.product((None, *store.kinds, "no kind"), WINDOWS, asks):
         try:
             found = list(ask(*given, kind=kind, since=since, until=until).items())
             told.append(sorted(found) if ask == session.neighbors else found)
-        except (misteluk.NoKind, misteluk.NoVertex) as fault:
+        except (misteluk.errors.NoKind, misteluk.NoVertex) as fault:
             told.append(fault.word)
-    return told + sorted(session.edges()) + [of_names[0] in session, session.path(*session.degrees().most(2)[0][:1] * 2)
+    return told + sorted(session.edges()) + [session.has_vertex(of_names[0]), session.path(*session.degrees().top(2)[0][:1] * 2)
                                              if session.degrees() else None]
 
 
 def rows_of(session):
     """The rows of every table of a session, in the program's names."""
-    held, names = session.held, session.held.names()
+    held, names = session._held, session._held.names()
     tables = zip(*held.degrees(WHOLE)), [(names[it],) for it in held.labels(WHOLE)], [(it,) for it in held.cores(WHOLE)]
     return [" ".join(map(str, (name, *values))) for table in tables for name, values in zip(names, table)]
 
@@ -98,7 +99,7 @@ class Saving(Case):
 
     def test_a_file_by_hand(self):
         """What is written of a small store: units, a text and its id, an edge of two times, a kind and names without edges."""
-        store = self.store(blocks=64, weight_scale=100, times="iso")
+        store = self.store(blocks=64, units=Units(weight_scale=100, times="iso"))
         store.insert("owes", "ann", "bob smith", "1.50", "1970-01-01T00:00:01")
         store.insert("owes", "ann", "bob smith", "2.50", "1970-01-01T00:00:02")
         store.insert("knows", "cat", "cat")
@@ -115,20 +116,20 @@ class Saving(Case):
         digest = hashlib.sha256("\n".join(behind).encode()).hexdigest()
         wanted = ["open,0", f"i,misteluk,form:1,{digest},0,0", *behind]
         self.assertEqual((self.room / "s.csv").read_text().split("\n"), wanted)
-        self.assertEqual(done[1:], (1, 3, 1, len(wanted) - 1, 16384))
+        self.assertEqual(row(done)[1:], (1, 3, 1, len(wanted) - 1, 16384))
         self.assertEqual(str(done), f"{self.room}/s.csv: version 1 with 3 names and 1 edge, in {len(wanted) - 1} records for "
                          "`stinger run --blocks 16384`")
-        copy = self.restored(self.room / "s.csv", decimals="float")
-        self.assertEqual((copy.blocks, copy.units), (64, store.units._replace(decimals="float")))
+        copy = self.restored(self.room / "s.csv", units=Units(decimals="float"))
+        self.assertEqual((copy.blocks, copy.units), (64, replace(store.units, decimals="float")))
         self.assertEqual((copy.open().edge("owes", "ann", "bob smith").weight, copy.kinds), (2.5, ["owes", "knows"]))
 
     def test_empty_stores(self):
-        for options in ({}, {"weight_scale": 10}):
+        for options in ({}, {"units": Units(weight_scale=10)}):
             store = self.store(**options)
             store.open().save(self.room / "s.csv")
             copy = self.restored(self.room / "s.csv")
-            self.assertEqual((copy.stat()[:3], copy.units), ((0, 0, 0), store.units))
-            self.assertEqual(copy.ledger.units_are_set, bool(options))
+            self.assertEqual((row(copy.stat())[:3], copy.units), ((0, 0, 0), store.units))
+            self.assertEqual(copy._ledger.units_are_set, bool(options))
 
     def test_it_goes_on(self):
         """A restored store takes operations, loads and expiries as the saved one does, and can be saved again."""
@@ -167,8 +168,8 @@ class Saving(Case):
             session, graph = self.played(seed)[-1]
             done = session.save(self.room / "s.csv.gz")
             script = gzip.open(self.room / "s.csv.gz").read()
-            self.assertEqual((done.records, done.edges, done.names), (script.count(b"\n"), len(graph), len(graph.names)))
-            to_program = session.store.ledger.terms.names.to_program
+            self.assertEqual((done.records, done.edges, done.vertices), (script.count(b"\n"), len(graph), len(graph.names)))
+            to_program = session.store._ledger.terms.names.to_program
             whole = f"*,0,{records.MOST_TIME}"
             edges = [records.record(("edge", "0", *map(to_program, it))).strip() for it in graph]
             told, status = run_alone(script, "open,0", *(f"{it},0,{whole}" for it in ("deg", "comp", "core")), *edges, "stat")
@@ -204,7 +205,7 @@ class Limits(Case):
         for blocks in (52, 53, 60, 130, 16_384):
             with Store.restore(self.room / "s.csv", blocks=blocks) as copy, copy.open() as session:
                 self.assertEqual((copy.stat().used, sorted(session.edges())), (50, wanted))
-        with self.assertRaisesRegex(misteluk.PoolEmpty, "needs at least 52 blocks, and 51 are said"):
+        with self.assertRaisesRegex(misteluk.errors.PoolEmpty, "needs at least 52 blocks, and 51 are said"):
             Store.restore(self.room / "s.csv", blocks=51)
 
     def test_room_is_what_the_program_uses(self):
@@ -213,17 +214,17 @@ class Limits(Case):
             self.addCleanup(play.end)
             for _ in range(14):
                 play.step()
-            operations = copying.operations_of(copying.content_of(play.store.open().held))
+            operations = copying.operations_of(copying.content_of(play.store.open()._held))
             room, store = saving.Room(operations), self.store(blocks=64)
             for at in range(0, len(operations.codes), 5):
                 part = Operations(columns=operations.some(slice(at, at + 5)))
-                store.ledger.apply(part, True)
+                store._ledger.apply(part, True)
                 self.assertEqual(store.stat().used, room.behind[at + part.size])
 
     def test_room_of_a_loop_that_comes_again(self):
         """The loops by which kinds are made known go before the edges, which may be the same loops."""
         store = self.store("insert k a a 1 1", "insert l a a 1 1")
-        operations = copying.operations_of(copying.content_of(store.open().held))
+        operations = copying.operations_of(copying.content_of(store.open()._held))
         self.assertEqual(list(saving.Room(operations).behind), [0, 1, 0, 1, 0, 1, 2])
 
     def test_a_graph_of_all_blocks(self):

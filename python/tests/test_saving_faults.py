@@ -50,10 +50,10 @@ class Faults(Case):
         super().setUp()
         self.saver = self.store("insert k a b 1 1", "insert k b Ж 2 2", blocks=64)
         self.path = self.room / "s.csv.gz"
-        self.saver.open(0).save(self.path)
+        self.saver._open(0).save(self.path)
         self.old = self.path.read_bytes()
         self.feed(self.saver, "insert l c a 3 3")
-        self.session = self.saver.open(1)
+        self.session = self.saver._open(1)
         self.session.save(self.room / "new.csv.gz")
         self.new = (self.room / "new.csv.gz").read_bytes()
 
@@ -86,7 +86,7 @@ class Faults(Case):
         count, wrong = self.lines()
         self.assertGreater(count, 300)
         self.assertEqual(wrong, [])
-        self.assertEqual(len(self.session), 3)
+        self.assertEqual(self.session.edge_count, 3)
         with mock.patch.object(files, "whole", in_place):
             self.assertGreater(len(self.lines(3)[1]), 0)
 
@@ -163,7 +163,7 @@ class Faults(Case):
         for fault, place in ((FileNotFoundError, "no/s.csv"), (IsADirectoryError, "."), (OSError, "full")):
             with self.assertRaises(fault):
                 self.session.save(self.room / place)
-        with mock.patch.dict("sys.modules", {"zstandard": None}), self.assertRaises(misteluk.Missing):
+        with mock.patch.dict("sys.modules", {"zstandard": None}), self.assertRaises(misteluk.errors.Missing):
             self.session.save(self.room / "s.zst")
 
     def test_links_and_rights_stay(self):
@@ -182,7 +182,7 @@ class Faults(Case):
             for it in (data[:at], data[:at] + bytes([data[at] ^ 1]) + data[at + 1:], data[:at] + data[at + 1:]):
                 try:
                     count += told(saving.found_in(it, "damaged")) != whole
-                except misteluk.SaveFault:
+                except misteluk.errors.SaveFault:
                     pass
                 except Exception:
                     count += 1
@@ -194,7 +194,7 @@ class Faults(Case):
         (self.room / "e.csv").write_bytes((self.room / "d.csv").read_bytes())
         self.session.save(self.room / "e.csv")
         (self.room / "f.csv").write_bytes((self.room / "e.csv").read_bytes() + b"i,k,x,y,1,1\ncommit\n")
-        with self.assertRaisesRegex(misteluk.SaveFault, "f.csv is damaged or cut"):
+        with self.assertRaisesRegex(misteluk.errors.SaveFault, "f.csv is damaged or cut"):
             Store.restore(self.room / "f.csv")
 
     def test_without_the_digest_damage_is_taken(self):
@@ -215,7 +215,7 @@ class Faults(Case):
         for text, told in (("", "is no saved version"), ("a,b\n", "is no saved version"), ("open,0\n", "is no saved version"),
                            ("i,k,a,b,1,1\ncommit\n", "is no saved version"),
                            (f"open,0\ni,misteluk,form:2,{'0' * 64},0,0\n", "is of form 2, and this package knows form 1")):
-            with self.assertRaisesRegex(misteluk.SaveFault, told):
+            with self.assertRaisesRegex(misteluk.errors.SaveFault, told):
                 Store.restore(self.file("o.csv", text))
         self.assertRaises(FileNotFoundError, Store.restore, self.room / "none.csv")
         self.assertRaises(IsADirectoryError, Store.restore, self.room)

@@ -8,10 +8,11 @@ import unittest
 from unittest import mock
 
 from serving import FEED, ServeCase
-from support import as_soon_as
+from support import as_soon_as, row
 
 import misteluk
-from misteluk import Busy, Edge, Served, connect, connect_async
+from misteluk import AsyncSession, Edge, Units, connect
+from misteluk.errors import Busy
 from misteluk.serve.page import FILES
 from misteluk.serve.feeding import checked_operations
 from misteluk.serve.server import Address
@@ -29,7 +30,8 @@ class Answers(ServeCase):
         self.assertEqual(dict(self.rows_of("/v1/cores")), session.cores())
         self.assertEqual(dict(self.rows_of("/v1/components?kind=owes")), session.components("owes"))
         self.assertEqual(dict(self.rows_of("/v1/weights_in?since=3")), session.weights_in(since=3))
-        self.assertEqual({name: tuple(it) for name, *it in self.rows_of("/v1/degrees")}, session.degrees().dict())
+        self.assertEqual({name: tuple(it) for name, *it in self.rows_of("/v1/degrees")},
+                         {name: row(it) for name, it in session.degrees().items()})
         self.assertEqual(self.rows_of("/v1/degrees?top=1&by=weight"), [("funnel", 1, 2, 3850)])
         self.assertEqual(self.rows_of("/v1/edges"), [(*ends, *edge) for *ends, edge in session.edges()])
         self.assertEqual(self.rows_of("/v1/edges?top=1"), [("transfer", "funnel", "offshore", 3850, 3, 3)])
@@ -52,11 +54,11 @@ class Answers(ServeCase):
 
     def test_units(self):
         """Weights that are decimals are texts, as dates are."""
-        self.serve(weight_scale=100, times="iso")
+        self.serve(units=Units(weight_scale=100, times="iso"))
         self.assertEqual(self.post("/v1/rows", {"rows": [["add", "k", "Иванов Пётр", "b", "0.10", "2024-03-04"]]}).status, 200)
         self.assertEqual(self.rows_of("/v1/edges"), [("k", "Иванов Пётр", "b", "0.10", *["2024-03-04T00:00:00+00:00"] * 2)])
-        with connect(self.server.url) as session:
-            self.assertEqual(str(session.into("b")["Иванов Пётр"].weight), "0.10")
+        with connect(self.server.url) as of_session, of_session.open() as session:
+            self.assertEqual(str(session.predecessors("b")["Иванов Пётр"].weight), "0.10")
 
     def test_what_can_t_be_answered(self):
         """Each with its status, a word and a reason; none names a place of this machine."""
@@ -90,19 +92,19 @@ class Answers(ServeCase):
         self.fed()
 
         async def both():
-            async with await connect_async(self.server.url) as session:
+            async with await AsyncSession.connect(self.server.url) as session:
                 levels, edge, walk = await asyncio.gather(session.levels("ana"), session.edge("transfer", "ben", "funnel"),
                                                           session.path("boss", "offshore"))
-                graph, into = await session.ask(session.session.edges_columns, kind="owes"), await session.edges_into("funnel")
+                graph, into = await session.ask(session.session.edges, kind="owes"), await session.in_edges("funnel")
                 self.assertEqual((session.version, session.is_open, len(into), "neighbors" in dir(session)), (1, True, 2, True))
                 with self.assertRaises(misteluk.NoVertex):
-                    await session.out_of("zed")
+                    await session.successors("zed")
                 for name in ("nothing", "_terms"):  # (what is the session's own stays its own)
                     self.assertFalse(hasattr(session, name), name)
-                self.assertEqual(repr(session), f"<Awaited {session.session!r}>")
-                async with await connect_async(self.server.url) as other:
+                self.assertEqual(repr(session), f"<Async {session.session!r}>")
+                async with await AsyncSession.connect(self.server.url) as other:
                     return levels, edge, walk, len(graph), bool(await session.diff(other))
-        self.assertFalse(hasattr(misteluk.AwaitedSession.__new__(misteluk.AwaitedSession), "session"))
+        self.assertFalse(hasattr(misteluk.AsyncSession.__new__(misteluk.AsyncSession), "session"))
         found = asyncio.run(both())
         walk = ["boss", "ana", "funnel", "offshore"]
         self.assertEqual(found, ({"ana": 0, "funnel": 1, "offshore": 2}, Edge(950, 1, 1), walk, 1, False))
@@ -144,7 +146,7 @@ class Level(ServeCase):
             ("edge?kind=transfer&source=ana&target=funnel", "&"), ("degrees", "?"), ("levels?source=ana", "&"), ("edges", "?"),
             ("names?like=n", "&"), ("into?vertex=funnel", "&"), ("view?vertex=funnel", "&"))]
         before, kept, versions = [self.ask(it).body for it in held], [], []
-        with connect(self.server.url, version=1) as session, Served(self.server.url) as feed:
+        with connect(self.server.url) as of_session, of_session.open(version=1) as session, connect(self.server.url) as feed:
             edges, cores = list(session.edges()), session.cores()
             for at in range(30):
                 for _ in range(7):
@@ -173,7 +175,7 @@ class Level(ServeCase):
 class Feeds(ServeCase):
     def test_rows_that_are_none(self):
         """What is told names the row, and the word of the fault once."""
-        self.serve(weight_scale=100)
+        self.serve(units=Units(weight_scale=100))
         for body, word, reason in (
                 (b"add,k,a,b,1,1\n\nadd,k,\xff,b,1,1\n", "BadRequest", "row 2: byte 0xff is no UTF-8"),
                 (b'add,k,"a\nb",b,1,1\nadd,k,"c\n\xe4",b,1,1\n', "BadRequest", "row 2: byte 0xe4 is no UTF-8"),
@@ -193,10 +195,10 @@ class Feeds(ServeCase):
     def test_one_feeds(self):
         """A second one is told so, until the first one gives its seat back."""
         self.serve()
-        with Served(self.server.url) as first, Served(self.server.url) as second:
+        with connect(self.server.url) as first, connect(self.server.url) as second:
             first.add("k", "a", "b", 5, 1)
             first.commit()
-            self.assertEqual(repr(second), f"<Served by the server {self.server.url}: 0 sessions open, 0 pending>")
+            self.assertEqual(repr(second), f"<Store of the server {self.server.url}: 0 sessions open, 0 pending>")
             second.add("k", "a", "c", 5, 1)
             self.assertRaisesRegex(Busy, "another client feeds", second.commit)
             self.assertEqual((second.discard(), second.pending), (1, 0))
@@ -246,7 +248,7 @@ class Feeds(ServeCase):
         """What goes wrong behind a batch doesn't make it go in twice."""
         self.serve()
         seat, real = self.post("/v1/feeder").json["feeder"], self.server.board.advance
-        with mock.patch.object(self.server.board, "advance", side_effect=misteluk.NoMemory("none")):
+        with mock.patch.object(self.server.board, "advance", side_effect=misteluk.errors.NoMemory("none")):
             self.assertEqual(self.post(f"/v1/feeder/{seat}/batches/1", {"operations": "a,k,x,y,5,1\n"}).status, 503)
         self.assertEqual(self.post(f"/v1/feeder/{seat}/batches/1", {"operations": "a,k,x,y,5,1\n"}).json["version"], 1)
         real()
@@ -259,12 +261,12 @@ class Feeds(ServeCase):
         self.assertEqual(self.post("/v1/rows", {"rows": rows}).status, 200)
         found = self.post("/v1/rows", {"rows": [["insert", "k", f"new{it}", "t", 1, 1] for it in range(60)]})
         self.assertEqual((found.status, found.json["error"]), (409, "PoolEmpty"))
-        with Served(self.server.url) as store:
+        with connect(self.server.url) as store:
             store.insert("k", "s1", "u", 1, 1)
             self.assertEqual(store.commit().version, 2)
             for it in range(60):
                 store.insert("k", f"new{it}", "t", 1, 1)
-            self.assertRaisesRegex(misteluk.PoolEmpty, "the batch needs 60 free blocks", store.commit)
+            self.assertRaisesRegex(misteluk.errors.PoolEmpty, "the batch needs 60 free blocks", store.commit)
             self.assertEqual(store.discard(), 60)
 
     def test_no_client_changes_what_a_name_is(self):
@@ -306,7 +308,7 @@ class Feeds(ServeCase):
         def watch():
             before = 0
             while not is_over.is_set():
-                with connect(self.server.url) as session:
+                with connect(self.server.url) as of_session, of_session.open() as session:
                     found = {source: edge.weight for _, source, _, edge in session.edges("turn")}
                     if session.version < before or len(set(found.values())) > 1:
                         wrong.append((before, session.version, found))
@@ -315,7 +317,7 @@ class Feeds(ServeCase):
         threads = [threading.Thread(target=watch) for _ in range(3)]
         for it in threads:
             it.start()
-        with Served(self.server.url) as feed:
+        with connect(self.server.url) as feed:
             for _ in range(40):
                 for it in range(20):
                     feed.add("turn", f"s{it}", "t", 1, 1)

@@ -9,7 +9,8 @@ from unittest import mock
 
 from serving import Clock, ServeCase
 
-from misteluk import NoServer, NotAllowed, Served, SessionClosed, StoreError, connect
+from misteluk import SessionClosed, StoreError, connect
+from misteluk.errors import NoServer, NotAllowed
 from misteluk.serve import alive
 from misteluk.serve.feeding import Rate
 from misteluk.serve.talk import Talk
@@ -120,9 +121,9 @@ class Prefixes(ServeCase):
             self.addCleanup(proxy.server_close)
             self.addCleanup(proxy.shutdown)
             url = f"http://127.0.0.1:{proxy.server_address[1]}"
-            with connect(f"{url}{prefix}{at}") as session:
+            with connect(f"{url}{prefix}{at}") as of_session, of_session.open() as session:
                 self.assertEqual(session.levels("ana"), {"ana": 0, "funnel": 1, "offshore": 2})
-            with Served(f"{url}{prefix}{at}") as store:
+            with connect(f"{url}{prefix}{at}") as store:
                 store.add("k", "a", "b", 5, 1)
                 self.assertEqual(store.commit().version, self.ask("/v1/stat").json["version"])
             self.assertEqual([it for it in handler.seen if not it.startswith(f"{prefix}/v1/")], [])

@@ -10,7 +10,7 @@ from unittest import mock
 from serving import ServeCase
 from support import as_soon_as
 
-from misteluk import Served, SessionClosed, connect, connect_async
+from misteluk import AsyncSession, SessionClosed, connect
 from misteluk.serve import alive
 from misteluk.serve.limits import ServerLimits
 
@@ -28,21 +28,22 @@ class Alive(ServeCase):
     def test_a_silent_session_is_kept(self):
         """As long as it is open, where that is asked for; else it is let go."""
         self.fed(limits=ServerLimits(idle=1.5))
-        with connect(self.server.url, keep_alive=True) as kept, connect(self.server.url) as silent:
+        with connect(self.server.url, keep_alive=True) as keeping, keeping.open() as kept, connect(self.server.url) as other, \
+                other.open() as silent:
             self.post("/v1/rows", {"rows": ROW})
             time.sleep(4)
             self.assertEqual((self.held(), len(self.threads())), ({1: 1, 2: 0}, 1))
             self.assertRaises(SessionClosed, silent.cores)
-            self.assertEqual((kept.version, len(kept)), (1, 4))
+            self.assertEqual((kept.version, kept.edge_count), (1, 4))
         as_soon_as(lambda: self.held() == {2: 0} and not self.threads())
 
     def test_a_store_s_sessions_are_kept(self):
         self.fed(limits=ServerLimits(idle=1.5))
-        with Served(self.server.url, keep_alive=True) as store:
+        with connect(self.server.url, keep_alive=True) as store:
             first, second = store.open(), store.open()
             self.post("/v1/rows", {"rows": ROW})
             time.sleep(4)
-            self.assertEqual((len(first), len(second), len(self.threads())), (4, 4, 2))
+            self.assertEqual((first.edge_count, second.edge_count, len(self.threads())), (4, 4, 2))
             first.close()
             as_soon_as(lambda: len(self.threads()) == 1)
         as_soon_as(lambda: self.held() == {2: 0} and not self.threads())
@@ -51,7 +52,7 @@ class Alive(ServeCase):
         """Its thread ends at once, and doesn't wait until it would tell the server something. It keeps no process from its end.
         A version is given back once."""
         self.fed(limits=ServerLimits(idle=600))
-        session = connect(self.server.url, keep_alive=True)
+        session = connect(self.server.url, keep_alive=True).open()
         self.assertEqual(([it.daemon for it in self.threads()], sum(self.held().values())), ([True], 1))
         with mock.patch.object(alive, "_give_back") as given_back:
             session.close()
@@ -61,7 +62,7 @@ class Alive(ServeCase):
             gc.collect()
             with warnings.catch_warnings():
                 warnings.simplefilter("ignore", ResourceWarning)
-                forgotten = connect(self.server.url)
+                forgotten = connect(self.server.url).open()
                 del forgotten
                 gc.collect()
             as_soon_as(lambda: given_back.called)
@@ -72,16 +73,16 @@ class Alive(ServeCase):
         self.fed(limits=ServerLimits(idle=1.5))
 
         async def silent():
-            async with await connect_async(self.server.url, keep_alive=True) as session:
+            async with await AsyncSession.connect(self.server.url, keep_alive=True) as session:
                 await asyncio.sleep(4)
-                return await session.ask(len, session)
+                return await session.ask(lambda it: it.edge_count, session)
         self.assertEqual(asyncio.run(silent()), 4)
         as_soon_as(lambda: not self.threads())
 
     def test_one_that_the_server_lets_go(self):
         """Then nothing keeps it, and its client is told at the next question."""
         self.fed(limits=ServerLimits(idle=1.5))
-        with connect(self.server.url, keep_alive=True) as session:
+        with connect(self.server.url, keep_alive=True) as of_session, of_session.open() as session:
             self.assertEqual(len(self.threads()), 1)
             self.server.board.let_all_go()
             as_soon_as(lambda: not self.threads())
@@ -91,16 +92,16 @@ class Alive(ServeCase):
         """The server lets its version go at once, whether it was kept or not."""
         self.fed(limits=ServerLimits(idle=600))
         for keep_alive in (False, True):
-            with Served(self.server.url, keep_alive=keep_alive) as store:
+            with connect(self.server.url, keep_alive=keep_alive) as store:
                 session = store.open()
-                self.assertEqual((sum(self.held().values()), store.engine.open_count), (1, 1))
+                self.assertEqual((sum(self.held().values()), store._engine.open_count), (1, 1))
                 del session
                 gc.collect()
                 as_soon_as(lambda: sum(self.held().values()) == 0 and not self.threads(), 20)
-                self.assertEqual(store.engine.open_count, 0)
+                self.assertEqual(store._engine.open_count, 0)
             with warnings.catch_warnings():
                 warnings.simplefilter("ignore", ResourceWarning)  # (of a store that was let go without `close`)
-                session = connect(self.server.url, keep_alive=keep_alive)
+                session = connect(self.server.url, keep_alive=keep_alive).open()
                 self.assertEqual(sum(self.held().values()), 1)
                 del session
                 gc.collect()

@@ -11,6 +11,7 @@ import unittest
 from described import faults, wrong
 from serving import FEED, ServeCase
 
+from misteluk import Units
 from misteluk.serve import news, schemas
 from misteluk.serve.limits import ServerLimits
 from misteluk.serve.people import People
@@ -29,7 +30,7 @@ class Csv(ServeCase):
 
     def test_each_table(self):
         """The same rows as JSON has them, with the names of its columns above them."""
-        self.fed(*FEED, *(["add", "k", it, "hub", 1.5, 1] for it in ODD), weight_scale=100)
+        self.fed(*FEED, *(["add", "k", it, "hub", 1.5, 1] for it in ODD), units=Units(weight_scale=100))
         tables = [it.name for it in QUESTIONS if it.columns]
         self.assertEqual(len(tables), 10)
         for name in tables:
@@ -44,7 +45,7 @@ class Csv(ServeCase):
 
     def test_dates_and_many_rows(self):
         rows = [["add", "k", f"a{it}", "b", 1, f"2024-03-{it % 28 + 1:02}"] for it in range(5_000)]
-        self.fed(*rows, times="iso")
+        self.fed(*rows, units=Units(times="iso"))
         _, (_, *found) = self.csv_of("/v1/edges")
         self.assertEqual((len(found), {it[4][:10] for it in found}), (5_000, {it[5] for it in rows}))
 

@@ -16,7 +16,7 @@ from serving import FEED, ServeCase
 from support import as_soon_as
 
 import misteluk
-from misteluk import Columns, Served
+from misteluk import Columns, Units, connect
 from misteluk.feeds import apart, parcels
 from misteluk.serve.server import Server
 
@@ -101,7 +101,7 @@ class Apart(ServeCase):
                 "Иванов Пётр,bob,0.25,2024-05-02,owes money",
                 "ana,Иванов Пётр,1,2024-05-03,pays"]
         path = self.file("feed.csv", "".join(f"{it}\n" for it in rows))
-        self.serve(weight_scale=100, times="iso")
+        self.serve(units=Units(weight_scale=100, times="iso"))
         self.follow(path, columns=Columns(1, 2, kind=5, weight=3, time=4), until_end=True)
         as_soon_as(lambda: self.feed()["state"] == "ended")
         with self.server.store.open() as session:
@@ -299,7 +299,7 @@ class Apart(ServeCase):
             self.assertIn("serves", server.stdout.readline())
             as_soon_as(lambda: children(server.pid))
             reader, = children(server.pid)
-            with Served(f"unix:{where}") as store:
+            with connect(f"unix:{where}") as store:
                 as_soon_as(lambda: store.stat().edges == 1)
                 server.kill()
                 server.wait()
@@ -310,7 +310,7 @@ class Apart(ServeCase):
         path, where = self.file("feed.csv", "ana,bob,5,1\n"), str(self.room / "socket")
         server = self.command(path, *AS_ROWS, "--listen", f"unix:{where}")
         self.assertIn("serves", server.stdout.readline())
-        with Served(f"unix:{where}") as store:
+        with connect(f"unix:{where}") as store:
             as_soon_as(lambda: store.stat().edges == 1)
             reader, = children(server.pid)
             self.assertNotEqual(os.getsid(reader), os.getsid(server.pid))

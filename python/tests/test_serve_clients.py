@@ -16,7 +16,8 @@ from serving import FEED, ServeCase
 from support import HERE, Case, as_soon_as
 
 import misteluk
-from misteluk import Busy, Edge, NoSeat, NoServer, NotAllowed, Served, SessionClosed, connect
+from misteluk import Edge, SessionClosed, connect, errors
+from misteluk.errors import Busy, NoSeat, NoServer, NotAllowed
 from misteluk.command.main import main
 from misteluk.serve.limits import ServerLimits
 from misteluk.serve.people import People
@@ -30,24 +31,24 @@ class Clients(ServeCase):
         sessions = []
         self.addCleanup(lambda: [it.close() for it in sessions])
         for it in range(20):
-            sessions.append(connect(self.server.url))
+            sessions.append(connect(self.server.url).open())
             self.assertEqual(self.post("/v1/rows", {"rows": [["add", "k", "a", "b", 1, 1]]}).status, 200)
         self.assertEqual(self.ask("/v1/edge?kind=k&source=a&target=b").json["version"], 21)
         found = self.post("/v1/sessions")
         self.assertEqual((found.status, found.json["error"]), (503, "NoSeat"))
         self.assertTrue(0 < int(found.headers["retry-after"]) <= 60)
-        self.assertRaisesRegex(NoSeat, "ask again in", connect, self.server.url)
+        self.assertRaisesRegex(NoSeat, "ask again in", sessions[0].store.open)
         self.assertEqual((sessions[3].version, self.ask("/v1/stat").json["seats"]), (4, 20))
         sessions.pop().close()
-        with connect(self.server.url) as session:
+        with connect(self.server.url) as of_session, of_session.open() as session:
             self.assertEqual(session.version, 21)
-        with connect(self.server.url, version=4) as session:
+        with connect(self.server.url) as of_session, of_session.open(version=4) as session:
             self.assertEqual(session.version, 4)
 
     def test_a_version_that_was_let_go(self):
         self.fed()
-        with connect(self.server.url) as session:
-            self.assertEqual(self.ask(f"/v1/sessions/{session.held.name}", "DELETE").status, 204)
+        with connect(self.server.url) as of_session, of_session.open() as session:
+            self.assertEqual(self.ask(f"/v1/sessions/{session._held.name}", "DELETE").status, 204)
             self.assertRaisesRegex(SessionClosed, "the server let version 1 go", session.cores)
             self.assertFalse(session.is_open)
 
@@ -61,9 +62,9 @@ class Clients(ServeCase):
 
     def test_it_takes_no_other_end(self):
         self.fed()
-        with Served(self.server.url) as store:
-            self.assertRaisesRegex(misteluk.StoreError, "by the server alone", store.renew)
-            self.assertRaisesRegex(misteluk.StoreError, "by the server alone", store.rebase, store.open())
+        with connect(self.server.url) as store:
+            self.assertRaisesRegex(misteluk.StoreError, "by the server alone", store.compact)
+            self.assertRaisesRegex(misteluk.StoreError, "by the server alone", store.compact, store.open())
 
 
 class Doors(ServeCase):
@@ -79,7 +80,7 @@ class Doors(ServeCase):
         self.assertEqual(self.ask("/").status, 200)
         self.assertRaises(NotAllowed, connect, self.server.url)
         self.assertRaises(NotAllowed, connect, self.server.url, token="another-one")
-        with connect(self.server.url, token="open-sesame") as session:
+        with connect(self.server.url, token="open-sesame") as of_session, of_session.open() as session:
             self.assertEqual(session.version, 0)
 
     def test_pages_of_others_get_nothing(self):
@@ -115,10 +116,10 @@ class Doors(ServeCase):
             left.bind(path)
         server = self.serve(f"unix:{path}")
         self.assertEqual(stat.S_IMODE(os.stat(path).st_mode), 0o600)
-        with Served(server.url) as store:
+        with connect(server.url) as store:
             store.add("k", "a", "b", 5, 1)
             store.commit()
-            with connect(f"unix:{path}") as session:
+            with connect(f"unix:{path}") as of_session, of_session.open() as session:
                 self.assertEqual(session.edge("k", "a", "b"), Edge(5, 1, 1))
         with misteluk.Store() as other:
             self.assertRaises(OSError, Server, other, f"unix:{path}")
@@ -146,7 +147,7 @@ class Doors(ServeCase):
         gate = threading.Event()
         self.addCleanup(gate.set)
         session = self.server.board._last.session
-        held, session.held = session.held, Slow(session.held, gate)
+        held, session._held = session._held, Slow(session._held, gate)
         self.addCleanup(setattr, session, "held", held)
         found = self.ask("/v1/cores")
         self.assertEqual((found.status, found.json["error"]), (503, "TooLong"))
@@ -192,7 +193,7 @@ class Commands(ServeCase):
         self.assertEqual(told, f"misteluk: unix:{path} serves standard input, for this user alone\n")
         done.stdin.write("ana,bob\nbob,cat\n")
         done.stdin.flush()
-        with Served(f"unix:{path}") as store:
+        with connect(f"unix:{path}") as store:
             as_soon_as(lambda: store.stat().edges == 2)
             done.send_signal(signal.SIGTERM)
             said = done.communicate(timeout=60)[1]
@@ -203,7 +204,7 @@ class Commands(ServeCase):
         """It has more blocks, vertices and kinds than it began with, once they are needed."""
         path = str(self.room / "socket")
         self.begin("--listen", f"unix:{path}")
-        with Served(f"unix:{path}") as store:
+        with connect(f"unix:{path}") as store:
             store.load([(f"s{it}", "t", 1, 1) for it in range(70_000)], by="set", progress=False)
             self.assertEqual(store.stat().edges, 70_000)
 
@@ -211,8 +212,8 @@ class Commands(ServeCase):
         """They are as many as the help says."""
         path, said = str(self.room / "socket"), io.StringIO()
         self.begin("--listen", f"unix:{path}")
-        with Served(f"unix:{path}") as store:
-            blocks = store.engine.talk.call("GET", "/v1/stat").json()["blocks"]
+        with connect(f"unix:{path}") as store:
+            blocks = store._engine.talk.call("GET", "/v1/stat").json()["blocks"]
         with redirect_stdout(said), self.assertRaises(SystemExit):
             main(["serve", "--help"])
         self.assertEqual((blocks["all"], blocks["grow"]), (262_144, True))
@@ -221,18 +222,18 @@ class Commands(ServeCase):
     def test_it_keeps_no_operation(self):
         path = str(self.room / "socket")
         self.begin("--listen", f"unix:{path}")
-        with Served(f"unix:{path}") as store:
+        with connect(f"unix:{path}") as store:
             for at in range(7):
                 store.add("k", "a", "b", 1, at)
                 store.commit()
-            told = store.engine.talk.call("GET", "/v1/stat").json()
-            self.assertEqual((told["version"], told["operations_kept"], store.operations_kept), (7, 0, None))
+            told = store._engine.talk.call("GET", "/v1/stat").json()
+            self.assertEqual((told["version"], told["operations_kept"], store._engine.operations_kept), (7, 0, None))
 
     def test_a_server_that_is_killed(self):
         """Its clients are told so; the next one takes its socket, and they connect anew."""
         path = str(self.room / "socket")
         done, _ = self.begin("--listen", f"unix:{path}")
-        store = Served(f"unix:{path}")
+        store = connect(f"unix:{path}")
         session = store.open()
         done.kill()
         done.wait()
@@ -253,12 +254,12 @@ class Commands(ServeCase):
         """What they hold is let go when they were silent for long enough, and so is the seat of the one that fed."""
         path = str(self.room / "socket")
         self.begin("--listen", f"unix:{path}", "--idle", "0.5")
-        code = (f"import misteluk, os; s = misteluk.Served('unix:{path}'); s.add('k', 'a', 'b'); s.commit(); t = s.open(); "
+        code = (f"import misteluk, os; s = misteluk.connect('unix:{path}'); s.add('k', 'a', 'b'); s.commit(); t = s.open(); "
                 "s.add('k', 'a', 'b'); s.commit(); os.kill(os.getpid(), 9)")
         done = subprocess.run([sys.executable, "-c", code], env={**os.environ, "PYTHONPATH": str(HERE.parent)}, timeout=60)
         self.assertEqual(done.returncode, -9)
-        with Served(f"unix:{path}") as store:
-            as_soon_as(lambda: len(store.engine.talk.call("GET", "/v1/stat").json()["held"]) == 1)
+        with connect(f"unix:{path}") as store:
+            as_soon_as(lambda: len(store._engine.talk.call("GET", "/v1/stat").json()["held"]) == 1)
             store.add("k", "a", "b")
             versions: List[int] = []
 
@@ -286,7 +287,7 @@ class Packages(Case):
         """What is missing is asked for by its name, and a socket is left free."""
         path = self.room / "socket"
         with misteluk.Store() as store, mock.patch.dict(sys.modules, {"uvicorn": None}):
-            self.assertRaisesRegex(misteluk.Missing, "a server needs uvicorn: apt-get install python3-uvicorn", Server, store,
+            self.assertRaisesRegex(errors.Missing, "a server needs uvicorn: apt-get install python3-uvicorn", Server, store,
                                    f"unix:{path}")
         self.assertFalse(path.exists())
 

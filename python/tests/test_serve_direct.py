@@ -71,10 +71,10 @@ class Direct(ServeCase):
     @IF_READ
     def test_the_client_is_answered_directly(self):
         self.begin()
-        with connect(self.server.url) as session:
+        with connect(self.server.url) as of_session, of_session.open() as session:
             for _ in range(3):
                 self.assertEqual(session.edge("transfer", "ana", "funnel").weight, 980)
-            self.assertIn("ana", session)
+            self.assertTrue(session.has_vertex("ana"))
         self.assertEqual(self.told[:3], [ANSWER] * 3)
         self.assertIsNotNone(self.told[3])
 

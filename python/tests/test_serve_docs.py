@@ -14,7 +14,7 @@ import urllib.request
 from contextlib import redirect_stdout, suppress
 
 from serving import ServeCase
-from support import HERE, TOP, as_soon_as
+from support import HERE, TOP, as_soon_as, row
 from test_tutorial import is_like
 
 PAGE = TOP / "docs/SERVE.md"

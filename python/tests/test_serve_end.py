@@ -13,7 +13,8 @@ from unittest import mock
 from serving import FEED, ServeCase
 from support import HERE, as_soon_as
 
-from misteluk import Busy, Edge, Served, Store
+from misteluk import Edge, Store, connect
+from misteluk.errors import Busy
 from misteluk.serve import door, ending
 
 # A server whose answers stop for long before their part of this number, amid what one thread does.
@@ -49,7 +50,7 @@ class Signals(ServeCase):
         return done
 
     def client(self):
-        store = Served(f"unix:{self.path}")
+        store = connect(f"unix:{self.path}")
         self.addCleanup(store.close)
         return store
 
@@ -205,10 +206,10 @@ class Ends(ServeCase):
     def test_no_rows_come_in_at_the_end(self):
         """Each way of them is told so; questions are answered still."""
         self.fed()
-        with Served(self.server.url) as store:
+        with connect(self.server.url) as store:
             store.add("k", "a", "b", 5, 1)
             store.commit()
-            seat = store.engine._feeder
+            seat = store._engine._feeder
             self.server.feeding.close()
             self.assertEqual(self.post(f"/v1/feeder/{seat}/batches/9", {"operations": "a,k,x,y,5,1\n"}).json["error"], "Busy")
             store.add("k", "a", "c", 5, 1)

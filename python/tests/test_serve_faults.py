@@ -24,12 +24,12 @@ FAULTS = (KeyError("rows"), MemoryError(), RecursionError("too deep"), Attribute
 STAT = misteluk.Stat(3, 2, 1, 5, 6, 7)
 # Faults, and the status and the word that a client is told.
 TOLD = ((Denied("NoVertex"), 404, "NoVertex"), (Denied("NoKind"), 404, "NoKind"), (misteluk.NoVertex("ann"), 404, "NoVertex"),
-        (misteluk.SessionClosed("it is closed"), 410, "SessionClosed"), (misteluk.Busy("another one"), 409, "Busy"),
+        (misteluk.SessionClosed("it is closed"), 410, "SessionClosed"), (misteluk.errors.Busy("another one"), 409, "Busy"),
         (Denied("PoolEmpty", STAT), 409, "PoolEmpty"), (Denied("NamesFull"), 409, "NamesFull"),
         (Denied("KindsFull"), 409, "KindsFull"), (Denied("BatchLimit"), 409, "BatchLimit"),
-        (misteluk.PoolEmpty(needed=9, free=5), 409, "PoolEmpty"), (misteluk.NoMemory("none"), 503, "NoMemory"),
-        (misteluk.NotAllowed("no token"), 403, "NotAllowed"), (TooLarge("a post is long"), 413, "TooLarge"),
-        (Full("NoRoom", "64 versions are held", 7), 503, "NoRoom"), (misteluk.BadWeight("w"), 400, "BadWeight"),
+        (misteluk.errors.PoolEmpty(needed=9, free=5), 409, "PoolEmpty"), (misteluk.errors.NoMemory("none"), 503, "NoMemory"),
+        (misteluk.errors.NotAllowed("no token"), 403, "NotAllowed"), (TooLarge("a post is long"), 413, "TooLarge"),
+        (Full("NoRoom", "64 versions are held", 7), 503, "NoRoom"), (misteluk.errors.BadWeight("w"), 400, "BadWeight"),
         (Denied("BadWindow"), 400, "BadWindow"), (misteluk.StoreError("a fault"), 400, "StoreError"),
         (ValueError("no such field"), 400, "BadRequest"), (KeyError("rows"), 400, "BadRequest"))
 
@@ -44,7 +44,8 @@ class Told(unittest.TestCase):
                 told = json.loads(answer.body)
                 self.assertEqual((answer.status_code, told["error"], scope[WORD]), (status, word, word))
                 self.assertEqual(told.get("denied", False), isinstance(fault, Denied))
-                self.assertEqual(told.get("stat"), STAT._asdict() if word == "PoolEmpty" and "denied" in told else None)
+                wanted = dict(zip(("version", "names", "edges", "free", "retired", "used"), vars(STAT).values()))
+                self.assertEqual(told.get("stat"), wanted if word == "PoolEmpty" and "denied" in told else None)
                 self.assertEqual((told.get("retry_after"), answer.headers.get("retry-after")),
                                  (7, "7") if word == "NoRoom" else (None, None))
                 self.assertEqual(answer.headers.get("connection"), "close" if word == "TooLarge" else None)

@@ -99,7 +99,7 @@ class Posts(JournalServed):
                 for _ in range(2):
                     done = self.add([f"{name},b"], Idempotency_Key="1", Authorization=f"Bearer secret-of-{name}")
                     self.assertEqual(done[0], 200)
-            found = store.engine._journal.rows("SELECT version, feeder, producer FROM batches")
+            found = store._engine._journal.rows("SELECT version, feeder, producer FROM batches")
         self.assertEqual(found, [(1, "ana", "1"), (2, "ben", "1")])
 
     def test_its_end(self):
@@ -116,7 +116,7 @@ class Posts(JournalServed):
             self.port = server.address.port
             self.add(["a,b"])
             self.assertEqual(self.ask("GET", "/readyz")[0], 200)
-            journal = store.engine._journal
+            journal = store._engine._journal
             with mock.patch.object(journal, "_write", side_effect=lambda *_: (_ for _ in ()).throw(
                     journal._failed(of_sqlite("disk I/O error", "SQLITE_IOERR_FSYNC")))):
                 status, told = self.add(["a,c"])
@@ -169,7 +169,8 @@ class Followed(JournalServed):
         self.write(500, 800)
         os.rename(self.feed, f"{self.feed}.1")
         self.write(800, 900)
-        with Store(self.path) as store, self.assertRaisesRegex(misteluk.FeedFault, "feed.csv.1 now and has more than is in"):
+        more = "feed.csv.1 now and has more than is in"
+        with Store(self.path) as store, self.assertRaisesRegex(misteluk.errors.FeedFault, more):
             store.follow(str(self.feed), by="add", columns=misteluk.Columns(1, 2, weight=3, time=4), header=False)
         server = self.follow()
         self.has(900)

@@ -12,7 +12,8 @@ from serving import ServeCase
 from support import as_soon_as
 
 import misteluk
-from misteluk import Busy, Edge, SaveFault, Served, SessionClosed, Store
+from misteluk import Edge, SessionClosed, Store, Units, connect
+from misteluk.errors import Busy, SaveFault
 from misteluk.serve.feeding import FEEDERS
 from misteluk.serve.keeping import Keeper
 from misteluk.serve.limits import ServerLimits
@@ -31,7 +32,7 @@ class Kept(ServeCase):
         return done
 
     def client(self):
-        store = Served(f"unix:{self.path}")
+        store = connect(f"unix:{self.path}")
         self.addCleanup(store.close)
         return store
 
@@ -49,7 +50,7 @@ class Kept(ServeCase):
         done.kill()
         done.wait()
         store.add("k", "a", "b", 7, 2)
-        self.assertRaises(misteluk.NoServer, store.commit)
+        self.assertRaises(misteluk.errors.NoServer, store.commit)
         self.begin("1000")
         saved = told(self.client())["saved"]  # (the file has what this one began with)
         self.assertEqual((saved["version"], saved["seconds"] < 60), (0, True))
@@ -97,7 +98,7 @@ class Kept(ServeCase):
         self.assertEqual(done.returncode, 0)
         found = Store.restore(self.saved)
         self.addCleanup(found.close)
-        self.assertEqual(len(found.open().edges_columns()), 20)
+        self.assertEqual(len(found.open().edges()), 20)
 
     def test_a_pipe_goes_on(self):
         """What a pipe brings goes into what was saved."""
@@ -146,14 +147,14 @@ class Kept(ServeCase):
         self.assertEqual((keeper.told()["version"], keeper.fault), (2, ""))
 
     def test_units_are_the_file_s(self):
-        with Store(weight_scale=100) as store:
+        with Store(units=Units(weight_scale=100)) as store:
             store.add("k", "a", "b", "0.10", 1)
             store.commit()
             store.open().save(self.saved)
         for words, status in ((["--weight-scale", "10"], 1), (["--weight-scale", "100"], 0), ([], 0)):
             done = self.command("--listen", f"unix:{self.path}", "--save", self.saved, *words)
             if status:
-                self.assertIn("and not {'weight_scale': 10}", done.communicate(timeout=60)[1])
+                self.assertIn("has weight_scale=100, times='number', and not weight_scale=10", done.communicate(timeout=60)[1])
             else:
                 done.stdout.readline()
                 store = self.client()
@@ -178,17 +179,17 @@ class Lost(ServeCase):
     def test_a_batch_of_one_that_lost_its_seat(self):
         """What it did is told to its client all the same; one that didn't come can't any more."""
         self.serve(limits=ServerLimits(idle=0.01))
-        with Served(self.server.url) as first, Served(self.server.url) as second:
+        with connect(self.server.url) as first, connect(self.server.url) as second:
             first.add("k", "a", "b", 5, 1)
-            real = first.engine.talk.call
+            real = first._engine.talk.call
 
             def lost(method, path, body=None):
                 found = real(method, path, body)
                 if "batches" in path and method == "POST":
-                    raise misteluk.NoAnswer("the answer is lost")
+                    raise misteluk.errors.NoAnswer("the answer is lost")
                 return found
-            with mock.patch.object(first.engine.talk, "call", lost):
-                self.assertRaises(misteluk.NoAnswer, first.commit)
+            with mock.patch.object(first._engine.talk, "call", lost):
+                self.assertRaises(misteluk.errors.NoAnswer, first.commit)
 
             def taken():
                 try:
@@ -226,7 +227,7 @@ class Lost(ServeCase):
 
 
 def told(store):
-    return store.engine.talk.call("GET", "/v1/stat").json()
+    return store._engine.talk.call("GET", "/v1/stat").json()
 
 
 if __name__ == "__main__":

@@ -12,7 +12,8 @@ from unittest import mock
 from serving import ServeCase
 from support import HERE, as_soon_as
 
-from misteluk import Edge, NoServer, Served, SessionClosed
+from misteluk import Edge, SessionClosed, connect
+from misteluk.errors import NoServer
 
 # A server that answers no batch and no post: it writes a word when one is applied, and one when a version with rows is saved.
 UNANSWERED = """
@@ -63,12 +64,12 @@ class Killed(ServeCase):
         return done
 
     def client(self):
-        store = Served(f"unix:{self.path}")
+        store = connect(f"unix:{self.path}")
         self.addCleanup(store.close)
         return store
 
     def stat(self, store):
-        return store.engine.talk.call("GET", "/v1/stat").json()
+        return store._engine.talk.call("GET", "/v1/stat").json()
 
     # The server, while it has a batch or a post.
 
@@ -124,7 +125,7 @@ class Killed(ServeCase):
 
         def commit():
             stores.append(self.client())
-            talk, stored = stores[0].engine.talk, stores[0]
+            talk, stored = stores[0]._engine.talk, stores[0]
             stored.add("k", "a", "b", 5, 1)
             real = talk.close
             with mock.patch.object(talk, "close", lambda: is_back.wait(60) and real()):  # (before it tries again)
@@ -191,7 +192,7 @@ class Killed(ServeCase):
     def test_a_client_with_the_seat(self):
         """What it committed is in, what it didn't commit isn't, and another one may feed when it was silent for long enough."""
         self.begin("--idle", "0.5")
-        code = (f"import misteluk, sys; s = misteluk.Served('unix:{self.path}'); s.add('k', 'a', 'b', 5, 1); s.commit(); "
+        code = (f"import misteluk, sys; s = misteluk.connect('unix:{self.path}'); s.add('k', 'a', 'b', 5, 1); s.commit(); "
                 "t = s.open(); s.add('k', 'a', 'c', 7, 1); print('fed', flush=True); sys.stdin.read()")
         feeder, store = self.python(code, stdin=subprocess.PIPE), self.client()
         self.assertEqual(feeder.stdout.readline(), "fed\n")
@@ -233,10 +234,10 @@ class Killed(ServeCase):
         store.load([(f"s{it % 300}", f"target-{it // 300}", it, it) for it in range(100_000)], by="set", progress=False)
         version = self.stat(store)["version"]
         before = len(os.listdir(f"/proc/{server.pid}/fd"))
-        code = (f"import http.client, misteluk, socket, sys; t = misteluk.connect('unix:{self.path}'); "
+        code = (f"import http.client, misteluk, socket, sys; t = misteluk.connect('unix:{self.path}').open(); "
                 f"s = socket.socket(socket.AF_UNIX); s.connect({self.path!r}); s.sendall(b'GET /v1/edges?session=' + "
-                "t.held.name.encode() + b' HTTP/1.1\\r\\nHost: localhost\\r\\n\\r\\n'); s.recv(100); print('reads', flush=True); "
-                "sys.stdin.read()")
+                "t._held.name.encode() + b' HTTP/1.1\\r\\nHost: localhost\\r\\n\\r\\n'); s.recv(100); "
+                "print('reads', flush=True); sys.stdin.read()")
         analyst = self.python(code, stdin=subprocess.PIPE)
         self.assertEqual(analyst.stdout.readline(), "reads\n")
         store.add("k", "x", "y")

@@ -17,7 +17,8 @@ from pages import CHROMIUM
 from serving import FEED, Clock, ServeCase
 from support import TOP, Case, as_soon_as, optional
 
-from misteluk import Columns, NotAllowed, Served, connect
+from misteluk import Columns, connect
+from misteluk.errors import NotAllowed
 from misteluk.serve import keeping
 from misteluk.serve.keeping import Keeper
 from misteluk.serve.metrics import BOUNDS, Counts
@@ -26,7 +27,7 @@ from misteluk.serve.notify import Manager
 SHARE = TOP / "share/serve"
 NGINX = shutil.which("nginx") or shutil.which("nginx", path="/usr/sbin")
 PARSER = optional("prometheus_client")
-COLUMNS = Columns(1, 2, weight=3, time=4, usual_kind="k")
+COLUMNS = Columns(1, 2, weight=3, time=4, default_kind="k")
 
 
 class Ready(ServeCase):
@@ -136,7 +137,7 @@ class Numbers(ServeCase):
 
     def test_the_short_way_counts(self):
         self.fed()
-        with connect(self.server.url) as session:
+        with connect(self.server.url) as of_session, of_session.open() as session:
             for _ in range(5):
                 session.edge("transfer", "ana", "funnel")
         self.assertEqual(self.numbers()[1]["misteluk_answer_seconds_count", ("call", "ask")], 5)
@@ -286,18 +287,18 @@ class Proxy(ServeCase):
 
     def test_clients_in_python(self):
         self.assertRaises(NotAllowed, connect, self.url, token="another-one")
-        with Served(self.url, token="open-sesame") as store:
+        with connect(self.url, token="open-sesame") as store:
             store.load([(f"s{it % 30}", f"t{it // 30}", it, it) for it in range(60_000)], by="set", progress=False)
-            with connect(self.url, token="open-sesame") as session:
-                self.assertEqual(len(session), 60_000)
+            with connect(self.url, token="open-sesame") as of_session, of_session.open() as session:
+                self.assertEqual(session.edge_count, 60_000)
                 store.add("k", "a", "b", 5, 1)
                 store.commit()
-                self.assertEqual(len(session), 60_000)
+                self.assertEqual(session.edge_count, 60_000)
 
     @unittest.skipUnless(CHROMIUM, "Chromium is not there")
     def test_a_browser_holds(self):
         """The page is under the path too, asks and holds through it, and draws."""
-        with Served(self.url, token="open-sesame") as store:
+        with connect(self.url, token="open-sesame") as store:
             store.add("k", "ana", "bob", 5, 1)
             store.commit()
         browser = Browser()

@@ -118,7 +118,7 @@ class Page(ServeCase):
         """Why it did is read there, with the line."""
         path = self.file("feed.csv", "ana,bob,5,1\n")
         self.serve()
-        columns = Columns(1, 2, weight=3, time=4, usual_kind="k")
+        columns = Columns(1, 2, weight=3, time=4, default_kind="k")
         with mock.patch("sys.stderr"):
             self.server.feeding.follow(self.server.store.follow(path, by="add", every=0.01, columns=columns))
             browser = self.open()

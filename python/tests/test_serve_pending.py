@@ -6,7 +6,8 @@ from unittest import mock
 from serving import ServeCase
 
 import misteluk
-from misteluk import Edge, NoAnswer, NoServer, Served, SessionClosed, Uncommitted
+from misteluk import Edge, SessionClosed, connect, errors
+from misteluk.errors import NoAnswer, NoServer, Uncommitted
 from misteluk.serve.limits import ServerLimits
 
 UNKNOWN = "Whether the batch that was sent is in isn't known"
@@ -23,7 +24,7 @@ class Pending(ServeCase):
         self.assertEqual(process.wait(), -9)
 
     def client(self):
-        store = Served(f"unix:{self.room}/socket")
+        store = connect(f"unix:{self.room}/socket")
         self.addCleanup(store.close)
         return store
 
@@ -59,7 +60,7 @@ class Pending(ServeCase):
 
     def unanswered(self, store, word):
         """Has a batch sent whose answer is lost: what the server does with it is said by the word."""
-        talk = store.engine.talk
+        talk = store._engine.talk
         real = talk.ask
 
         def ask(method, path, body=None, **more):
@@ -103,7 +104,7 @@ class Pending(ServeCase):
 
     def test_close_while_nobody_knows(self):
         """It doesn't say that what was sent isn't applied."""
-        server, store = self.begin(), Served(f"unix:{self.room}/socket")
+        server, store = self.begin(), connect(f"unix:{self.room}/socket")
         store.add("k", "a", "b", 5, 1)
         self.unanswered(store, "applied")
         store.add("k", "a", "c", 7, 1)
@@ -112,13 +113,13 @@ class Pending(ServeCase):
         self.assertRegex(str(fault), "2 operations were pending.*The first 1 were sent, and whether they are in isn't known; "
                                      "the others aren't applied")
         self.assertEqual(fault.operations, ["a,k,a,b,5,1\n", "a,k,a,c,7,1\n"])
-        server, store = self.begin(), Served(f"unix:{self.room}/socket")
+        server, store = self.begin(), connect(f"unix:{self.room}/socket")
         store.add("k", "a", "b", 5, 1)
         self.assertRaisesRegex(Uncommitted, "1 operations were pending and are not applied.*commit or discard first", store.close)
 
     def test_an_exception_while_nobody_knows(self):
         """The warning of a block that an exception ends says as much as `close`."""
-        server, store = self.begin(), Served(f"unix:{self.room}/socket")
+        server, store = self.begin(), connect(f"unix:{self.room}/socket")
         said = "2 operations were pending.*The first 1 were sent, and whether they are in isn't known; the others aren't applied$"
         with self.assertWarnsRegex(UserWarning, said), self.assertRaises(KeyError), store:
             store.add("k", "a", "b", 5, 1)
@@ -132,7 +133,7 @@ class Pending(ServeCase):
     def test_a_batch_that_is_too_long(self):
         """The client makes it shorter by itself. Each of its rows is in once, and the counts are those of all."""
         self.serve(limits=ServerLimits(body=2_000))
-        with Served(self.server.url) as store:
+        with connect(self.server.url) as store:
             for it in range(300):
                 store.add("k", f"s{it}", "t", 1, 1)
             told = store.commit()
@@ -145,7 +146,7 @@ class Pending(ServeCase):
     def test_names_that_are_long(self):
         """4,096 operations with such names are more than a server takes at once, if nothing else is said."""
         self.serve()
-        with Served(self.server.url) as store:
+        with connect(self.server.url) as store:
             for it in range(4_096):
                 store.add("k", f"{it}-{'x' * 1_100}", f"{it}-{'ü' * 1_100}", 1, 1)
             self.assertEqual((store.commit().inserted, store.stat().edges), (4_096, 4_096))
@@ -153,26 +154,26 @@ class Pending(ServeCase):
     def test_an_operation_that_is_too_long(self):
         """It is refused with what helps; what came before it is in, and it can be discarded with all behind it."""
         self.serve(limits=ServerLimits(body=2_000))
-        with Served(self.server.url) as store:
+        with connect(self.server.url) as store:
             store.add("k", "a", "b", 5, 1)
             store.add("k", "ü" * 3_000, "b", 5, 1)
             store.add("k", "c", "b", 5, 1)
-            fault = self.raised(misteluk.TooLarge, store.commit)
+            fault = self.raised(misteluk.errors.TooLarge, store.commit)
             self.assertRegex(str(fault), r"a request of [\d,]+ bytes, and the server takes 2,000.*--body")
             self.assertEqual((fault.applied.inserted, store.pending, store.discard(), store.pending), (1, 2, 2, 0))
-            self.assertRaisesRegex(misteluk.TooLarge, "lines 1 to 2 was refused.*Send or ask less at once.*--body", store.load,
+            self.assertRaisesRegex(errors.TooLarge, "lines 1 to 2 was refused.*Send or ask less at once.*--body", store.load,
                                    [("ü" * 2_000, "b", 5, 1), ("c", "b", 5, 1)], by="add", progress=False)
             store.add("k", "d", "b", 5, 1)
             self.assertEqual(store.commit().inserted, 1)
             with store.open() as session:
                 self.assertEqual(sorted(it[1] for it in session.edges()), ["a", "d"])
-                self.assertRaisesRegex(misteluk.TooLarge, "Send or ask less at once", session.edges, [("k", "a", "b")] * 300)
+                self.assertRaisesRegex(errors.TooLarge, "Send or ask less at once", session.get_edges, [("k", "a", "b")] * 300)
 
     def test_another_server_that_takes_less(self):
         """A refusal by the server itself is one, too."""
         self.serve(limits=ServerLimits(body=2_000))
-        with Served(self.server.url) as store:
-            store.engine.talk.most_body = 1 << 30
+        with connect(self.server.url) as store:
+            store._engine.talk.most_body = 1 << 30
             for it in range(200):
                 store.add("k", f"s{it}", "t", 1, 1)
             self.assertEqual((store.commit().inserted, store.pending), (200, 0))
@@ -180,14 +181,14 @@ class Pending(ServeCase):
     def test_a_token_that_is_no_more(self):
         """Nothing of what was refused is in, and all of it can be discarded."""
         self.serve(token="open-sesame")
-        with Served(self.server.url, token="open-sesame") as store:
+        with connect(self.server.url, token="open-sesame") as store:
             store.commit()
             store.add("k", "a", "b", 5, 1)
-            headers = store.engine.talk._headers
-            store.engine.talk._headers = headers.replace("open-sesame", "other-token")
-            self.assertRaises(misteluk.NotAllowed, store.commit)
+            headers = store._engine.talk._headers
+            store._engine.talk._headers = headers.replace("open-sesame", "other-token")
+            self.assertRaises(misteluk.errors.NotAllowed, store.commit)
             self.assertEqual((store.discard(), store.pending), (1, 0))
-            store.engine.talk._headers = headers
+            store._engine.talk._headers = headers
             store.commit()
             self.assertEqual(store.stat().edges, 0)
 

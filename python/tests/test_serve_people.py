@@ -12,7 +12,8 @@ from unittest import mock
 from serving import FEED, HAS_PACKAGES, NO_PACKAGES, ServeCase
 from support import Case, as_soon_as
 
-from misteluk import NotAllowed, Served, StoreError, connect
+from misteluk import StoreError, connect
+from misteluk.errors import NotAllowed
 from misteluk.serve import log
 from misteluk.serve.limits import ServerLimits
 from misteluk.serve.people import EVERYONE, ROLES, People, Person
@@ -219,11 +220,11 @@ class Roles(ServeCase):
 
     def test_clients_in_python(self):
         self.begin()
-        with Served(self.server.url, token=TOKENS["read"]) as store:
+        with connect(self.server.url, token=TOKENS["read"]) as store:
             store.add("k", "a", "b", 5, 1)
             self.assertRaisesRegex(NotAllowed, "for those with the role feed", store.commit)
             store.discard()
-        with Served(self.server.url, token=TOKENS["feed"]) as store:
+        with connect(self.server.url, token=TOKENS["feed"]) as store:
             store.add("k", "a", "b", 5, 1)
             self.assertEqual(store.commit().version, 1)
 
@@ -231,7 +232,7 @@ class Roles(ServeCase):
         """An open connection's token is looked up anew, on the short way too; and who is gone can't keep a session."""
         self.begin()
         self.post("/v1/rows", {"rows": FEED}, **self.as_one("feed"))
-        with connect(self.server.url, token=TOKENS["read"]) as session:
+        with connect(self.server.url, token=TOKENS["read"]) as of_session, of_session.open() as session:
             for _ in range(3):
                 self.assertEqual(session.edge("transfer", "ana", "funnel").weight, 980)
             self.file("people", LINES.replace("rita read", "rika read"))
@@ -278,7 +279,8 @@ class Commands(ServeCase):
         os.chmod(path, 0o600)
         done = self.command("--listen", f"unix:{place}", "--token-file", path, "--log", "json")
         self.assertIn("for those that have a token", done.stdout.readline())
-        connect(f"unix:{place}", token=TOKENS["read"]).close()
+        with connect(f"unix:{place}", token=TOKENS["read"]) as store:
+            store.open().close()
         self.file("people", LINES.replace(TOKENS["read"], "another-token"))
         done.send_signal(signal.SIGHUP)
 

@@ -263,11 +263,13 @@ class Budgets(ServeCase):
     def test_edges_that_are_asked_at_once(self):
         """A client asks as many as there are, some at a time, of one version."""
         server = self.fed(*(("add", "k", "a", f"b{it}", it + 1, 1) for it in range(11)))
-        with misteluk.connect(server.url) as session, mock.patch("misteluk.serve.client.MOST_VALUES", 3):
-            self.assertEqual([it.weight for it in session.edges([("k", "a", f"b{it}") for it in range(11)])], list(range(1, 12)))
-            self.assertEqual(list(session.edges([])), [])
-        with misteluk.connect(server.url) as session:
-            self.assertEqual(len(session.edges([("k", "a", "b1")] * 65_537)), 65_537)
+        with misteluk.connect(server.url) as store, store.open() as session, \
+                mock.patch("misteluk.serve.client.MOST_VALUES", 3):
+            self.assertEqual([it.weight for it in session.get_edges([("k", "a", f"b{it}") for it in range(11)])],
+                             list(range(1, 12)))
+            self.assertEqual(list(session.get_edges([])), [])
+        with misteluk.connect(server.url) as of_session, of_session.open() as session:
+            self.assertEqual(len(session.get_edges([("k", "a", "b1")] * 65_537)), 65_537)
 
     def test_rows_are_let_go_by_batches(self):
         """Nobody has all of them at once to let go, whether they are applied or refused."""
@@ -293,7 +295,7 @@ class Budgets(ServeCase):
             found = self.post("/v1/rows", {"rows": wrong})
             self.assertEqual((found.status, found.json), (400, {
                 "error": "BadCommand", "reason": f"row {at + 1}: an operation is insert, add, remove, expire"}))
-        names = self.server.store.ledger.terms.names
+        names = self.server.store._ledger.terms.names
         self.assertEqual((self.ask("/v1/stat").json["version"], len(names), len(self.server.store.kinds)), (0, 0, 0))
         self.assertEqual(self.post("/v1/rows", {"rows": rows}).json["inserted"], 10_000)
         self.assertEqual((len(names), list(self.server.store.kinds)), (10_000, ["k"]))

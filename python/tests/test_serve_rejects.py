@@ -10,7 +10,7 @@ from support import as_soon_as
 from test_rejects import NO_NAME, NO_NUMBER, shifted
 
 import misteluk
-from misteluk import Columns
+from misteluk import Columns, Units
 
 ROWS = Columns(1, 2, weight=3, time=4)
 
@@ -76,8 +76,8 @@ class Rejects(ServeCase):
 
     def test_a_time_too_far_ahead_and_what_expired(self):
         path = self.file("feed.csv", f"old,b,1,{shifted(days=-4)}\na,b,1,{shifted(days=-1)}\nfar,b,1,2255-01-01\n")
-        self.serve(times="iso")
-        self.follow(path, keep="2d", skip_bad=True, times="iso")
+        self.serve(units=Units(times="iso"))
+        self.follow(path, keep="2d", skip_bad=True, units=Units(times="iso"))
         as_soon_as(lambda: self.feed()["bad"] == 1)
         as_soon_as(lambda: self.edges() == ["a"])
         self.assertEqual(self.feed()["expired"], 1)
@@ -135,7 +135,8 @@ class Rejects(ServeCase):
         self.assertEqual(done.returncode, 1)
         done, kept = self.command(*words, "--rejects", str(self.room / "r.csv"), "--ahead", "1h"), self.room / "r.csv"
         self.assertIn("serves", done.stdout.readline())
-        with misteluk.connect(f"unix:{self.room}/socket") as session:  # (which answers once signals are heard)
+        with misteluk.connect(f"unix:{self.room}/socket") as store, store.open() as session:
+            # (which answers once signals are heard)
             self.assertLessEqual(len(list(session.edges())), 1)
         as_soon_as(lambda: kept.exists() and kept.read_text().count("\n") == 2)
         done.send_signal(signal.SIGTERM)

@@ -9,7 +9,8 @@ from unittest import mock
 from journaled import Model, batch, put, told
 from serving import ServeCase
 
-from misteluk import Columns, ReadOnly, Served, Store, StoreError
+from misteluk import Columns, connect, Store, StoreError, Units
+from misteluk.errors import ReadOnly
 from misteluk.journal.replica import FirstFile
 from misteluk.serve.board import Board
 from misteluk.serve.limits import ServerLimits
@@ -61,7 +62,7 @@ class Replicas(ServeCase):
         with Store(self.path) as store:
             replica = self.replica_of(self.path)
             self.file("rows.csv", "from,to,amount,day\nana,Иванов Пётр,1.50,2024-03-04\n")
-            store.load(str(self.room / "rows.csv"), by="add", weight_scale=100, times="iso",
+            store.load(str(self.room / "rows.csv"), by="add", units=Units(weight_scale=100, times="iso"),
                        columns=Columns("from", "to", weight="amount", time="day"))
             self.until(lambda: self.board.stat.version == 1)
             with replica.store.open() as session:
@@ -93,7 +94,7 @@ class Replicas(ServeCase):
         second = self.begun("--replica-of", self.path, "--listen", other)
         sent = 0
         for turn in range(3):
-            with Served(socket) as store:
+            with connect(socket) as store:
                 for _ in range(5):
                     sent += 1
                     store.add("k", f"a{sent}", "b")
@@ -105,7 +106,7 @@ class Replicas(ServeCase):
                 first = self.begun(self.path, "--listen", socket)
             else:
                 second = self.begun("--replica-of", self.path, "--listen", other)
-            with Served(other) as store:
+            with connect(other) as store:
                 self.until(lambda: store.stat().version == sent)
                 with store.open() as session:
                     self.assertEqual({it[1] for it in session.edges()}, {f"a{it}" for it in range(1, sent + 1)})

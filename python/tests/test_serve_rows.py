@@ -11,7 +11,7 @@ from serving import Clock, HAS_PACKAGES, NO_PACKAGES
 from support import Case
 from test_serve_talk import CHUNKED, WHOLE, Link
 
-from misteluk import errors
+from misteluk import Stat, errors
 from misteluk.engine.protocol import Denied
 from misteluk.serve import answers, log, wire
 from misteluk.serve.board import Board, Full
@@ -179,7 +179,7 @@ class Talks(unittest.TestCase):
             self.assertEqual((type(found), str(found)), (kind, text))
         full = {"error": "PoolEmpty", "denied": True, "stat": {"version": 1, "names": 2, "edges": 3, "free": 4, "retired": 5,
                                                                "used": 6}}
-        self.assertEqual(fault_of(Told(409, "application/json", json.dumps(full).encode())).stat, (1, 2, 3, 4, 5, 6))
+        self.assertEqual(fault_of(Told(409, "application/json", json.dumps(full).encode())).stat, Stat(1, 2, 3, 4, 5, 6))
         for media, body in (("text/html", b"<p>"), ("", b"")):
             found = fault_of(Told(502, media, body))
             self.assertEqual((type(found), str(found)),

@@ -9,7 +9,7 @@ from unittest import mock
 
 from serving import HAS_PACKAGES, ServeCase
 
-from misteluk import connect
+from misteluk import Degree, Units, connect
 from misteluk.engine.operations import row_of
 from misteluk.serve import answers, wire
 from misteluk.serve.feeding import _seen_rows
@@ -73,10 +73,10 @@ class Reading(unittest.TestCase):
 class Rows(ServeCase):
     def test_rows_that_are_seen_at_once(self):
         """They are what they are row by row, and those that break a rule, or have names of another form, aren't."""
-        for units in ({}, {"weight_scale": 100, "times": "iso"}):
+        for units in ({}, {"units": Units(weight_scale=100, times="iso")}):
             self.serve(**units)
             self.assertEqual(self.ask("/v1/stat").status, 200)
-            feeding, terms = self.server.feeding, self.server.store.ledger.terms
+            feeding, terms = self.server.feeding, self.server.store._ledger.terms
             weights = ["5", "-7", "0", str(1 << 40)] if not units else ["5", "-7.25", "0", "10.5"]
             times = ["0", "3", "9" * 18] if not units else ["2024-05-01", "2024-05-01T12:00:00", "0"]
             rows = [[word, kind, "a", f"b{at}", weight, time] for word in ("add", "insert") for kind in ("k", "l")
@@ -145,15 +145,15 @@ class Asked(ServeCase):
     def test_tables_are_those_of_their_version(self):
         """What is kept of a version is told of no other one, nor of some of its edges."""
         self.fed()
-        with connect(self.server.url) as first:
+        with connect(self.server.url) as of_first, of_first.open() as first:
             for _ in range(2):
-                self.assertEqual(first.degrees()["ana"], (1, 1, 980))
-                self.assertEqual(first.degrees("owes")["ana"], (0, 1, 0))
-                self.assertEqual(first.degrees(since=2)["ana"], (0, 0, 0))
+                self.assertEqual(first.degrees()["ana"], Degree(1, 1, 980))
+                self.assertEqual(first.degrees("owes")["ana"], Degree(0, 1, 0))
+                self.assertEqual(first.degrees(since=2)["ana"], Degree(0, 0, 0))
             self.post("/v1/rows", {"rows": [["add", "transfer", "ana", "ben", 20, 9]]})
-            with connect(self.server.url) as second:
+            with connect(self.server.url) as of_second, of_second.open() as second:
                 for _ in range(2):
-                    self.assertEqual((first.degrees()["ana"], second.degrees()["ana"]), ((1, 1, 980), (2, 1, 1_000)))
+                    self.assertEqual((first.degrees()["ana"], second.degrees()["ana"]), (Degree(1, 1, 980), Degree(2, 1, 1_000)))
                     self.assertEqual(second.components()["ben"], "ana")
 
     def test_a_question_that_is_too_long(self):
@@ -169,11 +169,11 @@ class Asked(ServeCase):
     def test_a_hub_is_counted_once(self):
         """Who has too many edges to be answered at once is answered by a thread from then on, as before."""
         self.fed(*(["add", "k", "hub", f"t{it}", it, it] for it in range(50)))
-        with mock.patch.object(asking, "FEW_OUT", 40), connect(self.server.url) as session:
-            held = self.server.board._last.session.held
+        with mock.patch.object(asking, "FEW_OUT", 40), connect(self.server.url) as of_session, of_session.open() as session:
+            held = self.server.board._last.session._held
             with mock.patch.object(held, "few_out_of", wraps=held.few_out_of) as counted:
                 for _ in range(3):
-                    self.assertEqual([len(session.edges_out_of(it)) for it in ("hub", "t1")], [50, 0])
+                    self.assertEqual([len(session.out_edges(it)) for it in ("hub", "t1")], [50, 0])
             # (a thread's answer has no bound)
             at_once = [name for _, name, most in (it.args for it in counted.call_args_list) if most is not None]
             self.assertEqual(at_once, ["hub", "t1", "t1", "t1"])
@@ -181,9 +181,9 @@ class Asked(ServeCase):
     def test_the_order_of_edges(self):
         """A client has them in order, whatever the server's order is."""
         self.fed(*(["add", kind, "hub", f"t{it * 7 % 50:02}", it, it] for it in range(50) for kind in ("b", "a")))
-        with connect(self.server.url) as session, self.server.store.open() as local:
-            self.assertEqual(list(session.edges_out_of("hub")), list(local.edges_out_of("hub")))
-            self.assertEqual(len(session.edges_out_of("hub")), 100)
+        with connect(self.server.url) as of_session, of_session.open() as session, self.server.store.open() as local:
+            self.assertEqual(list(session.out_edges("hub")), list(local.out_edges("hub")))
+            self.assertEqual(len(session.out_edges("hub")), 100)
         row = wire.unpacked(b'[["I", 2], ["Q", 1]]\n' + array("I", [1, 2]).tobytes() + array("Q", [9]).tobytes())
         self.assertEqual([it.tolist() for it in row], [[1, 2], [9]])
 

@@ -5,7 +5,8 @@ from unittest import mock
 from serving import Clock
 from support import Case
 
-from misteluk import Busy, SessionClosed
+from misteluk import SessionClosed
+from misteluk.errors import Busy
 from misteluk.serve.board import Board, Full
 from misteluk.serve.feeding import Feeding
 from misteluk.serve.keeping import Keeper
@@ -36,7 +37,7 @@ class Versions(Case):
         self.assertEqual([it.is_last for it in self.board.held()], [False, True])
         for it in leases:
             self.board.let_go(it.name)
-        self.assertEqual((self.told(), self.at.engine.open_count), ([(1, 0)], 1))
+        self.assertEqual((self.told(), self.at._engine.open_count), ([(1, 0)], 1))
 
     def test_sixteen_versions(self):
         """As many as clients may hold. What comes beyond is told when it may ask again; and then it may."""
@@ -68,13 +69,13 @@ class Versions(Case):
             self.at.commit()
             board.advance()
             with board.lent() as session:
-                self.assertEqual((session.version, len(session.edges_columns())), (it + 1, it + 1))
+                self.assertEqual((session.version, len(session.edges())), (it + 1, it + 1))
             keeper.save(board)
             self.assertEqual((keeper.told()["version"], keeper.fault), (it + 1, ""))
         self.assertEqual([it.version for it in board.held()], list(range(41)))
         for at, it in enumerate(leases):
             with board.lent(it.name) as session:
-                self.assertEqual((session.version, sorted(session.out_of("a")) if at else []),
+                self.assertEqual((session.version, sorted(session.successors("a")) if at else []),
                                  (at, sorted(f"b{to}" for to in range(at))))
         for it in leases:
             board.let_go(it.name)
@@ -83,14 +84,14 @@ class Versions(Case):
     def test_some_rows_of_a_post_are_no_version(self):
         """Neither to those who ask the newest, nor to a save."""
         self.advance()
-        real, told = self.at.engine.fly, []
+        real, told = self.at._engine.fly, []
 
         def fly(flight):
             found = real(flight)
             with self.board.lent() as session:
                 told.append((session.version, [it for it, _ in self.told()]))
             return found
-        with mock.patch.object(self.at.engine, "fly", fly):
+        with mock.patch.object(self.at._engine, "fly", fly):
             Feeding(self.board, ServerLimits()).rows([["add", "k", f"s{it}", "t", "1", "1"] for it in range(5_000)])
         self.assertEqual((told, [it for it, _ in self.told()]), ([(1, [1]), (1, [1])], [3]))
 
@@ -117,13 +118,13 @@ class Versions(Case):
         """Also where its client lets it go meanwhile, and where the next one comes."""
         with self.board.lent() as session:
             self.advance()
-            self.assertEqual((len(session), self.told()), (0, [(0, 0), (1, 0)]))
+            self.assertEqual((session.edge_count, self.told()), (0, [(0, 0), (1, 0)]))
         self.assertEqual(self.told(), [(1, 0)])
         lease = self.board.lease()
         with self.board.lent(lease.name) as session:
             self.board.let_go(lease.name)
             self.advance()
-            self.assertEqual(len(session), 1)
+            self.assertEqual(session.edge_count, 1)
         self.assertEqual(self.told(), [(2, 0)])
 
     def test_a_version_by_its_number(self):
@@ -155,7 +156,7 @@ class Versions(Case):
             except Full as fault:
                 self.assertEqual(fault.word, "NoSeat")
             self.advance()
-            self.at.renew()
+            self.at.compact()
         self.assertEqual((len(leases), [it for it, _ in self.told()]), (16, [*range(16), 20]))
         self.board.let_go(leases.pop().name)
         self.assertEqual([it for it, _ in self.told()], [*range(15), 20])

@@ -3,10 +3,10 @@ import pickle
 import unittest
 from unittest import mock
 
-from support import Case
+from support import Case, row
 
 import misteluk
-from misteluk import Commit, Degree, Edge, Rebased, Stat, Store
+from misteluk import Commit, Degree, Edge, Stat, Store, Units
 
 FUNNEL = ("insert transfer ana funnel 980 1", "insert transfer ben funnel 950 1", "insert transfer cyd funnel 990 2",
           "insert transfer dan funnel 970 2", "insert transfer funnel offshore 3850 3")
@@ -24,12 +24,12 @@ class Stores(Case):
         self.assertEqual(old.edge("transfer", "ben", "funnel"), Edge(950, 1, 1))
         self.assertIsNone(new.edge("transfer", "ben", "funnel"))
         self.assertEqual(new.edge("transfer", "funnel", "offshore"), Edge(2910, 3, 4))
-        self.assertEqual(sum(it.weight for it in old.into("funnel").values()), 3890)
-        self.assertEqual(sum(it.weight for it in new.into("funnel").values()), 2940)
+        self.assertEqual(sum(it.weight for it in old.predecessors("funnel").values()), 3890)
+        self.assertEqual(sum(it.weight for it in new.predecessors("funnel").values()), 2940)
 
     def test_answers(self):
         session = self.store(*FUNNEL, "insert owns ana zed 1 9").open()
-        self.assertEqual(session.names, 7)
+        self.assertEqual(session.vertex_count, 7)
         self.assertEqual(session.levels("ana"), {"ana": 0, "funnel": 1, "zed": 1, "offshore": 2})
         self.assertEqual(session.levels("ana", "transfer", until=2), {"ana": 0, "funnel": 1})
         self.assertEqual(set(session.components().values()), {"ana"})
@@ -37,26 +37,26 @@ class Stores(Case):
         self.assertEqual(session.cores(), dict.fromkeys(("ana", "funnel", "ben", "cyd", "dan", "offshore", "zed"), 1))
         self.assertEqual(session.degrees("transfer")["funnel"], Degree(1, 4, 3850))
         self.assertEqual(session.degrees(since=2, until=2)["funnel"], Degree(0, 2, 0))
-        self.assertEqual(session.out_of("funnel", "transfer"), {"offshore": Edge(3850, 3, 3)})
-        self.assertEqual(list(session.into("funnel", "transfer", since=2)), ["cyd", "dan"])
+        self.assertEqual(session.successors("funnel", "transfer"), {"offshore": Edge(3850, 3, 3)})
+        self.assertEqual(list(session.predecessors("funnel", "transfer", since=2)), ["cyd", "dan"])
         asked = [("transfer", "ana", "funnel"), ("transfer", "zed", "ana"), ("x", "ana", "zed"), ("owns", "ana", "z")]
-        self.assertEqual(session.edges(asked, missing=0), [Edge(980, 1, 1), None, 0, 0])
-        self.refused(misteluk.NoKind, "edge('x', 'ana', 'zed')", lambda: session.edges(asked))
-        self.refused(misteluk.NoVertex, "edge('owns', 'ana', 'z')", lambda: session.edges(asked[:2] + asked[3:]))
+        self.assertEqual(session.get_edges(asked, missing=0), [Edge(980, 1, 1), None, 0, 0])
+        self.refused(misteluk.errors.NoKind, "edge('x', 'ana', 'zed')", lambda: session.get_edges(asked))
+        self.refused(misteluk.NoVertex, "edge('owns', 'ana', 'z')", lambda: session.get_edges(asked[:2] + asked[3:]))
 
     def test_the_greatest(self):
         degrees = self.store(*FUNNEL).open().degrees("transfer")
         funnel, ana, cyd = ("funnel", Degree(1, 4, 3850)), ("ana", Degree(1, 0, 980)), ("cyd", Degree(1, 0, 990))
-        self.assertEqual((degrees.most(2), degrees.most(2, by="out")), ([ana, funnel],) * 2)
-        self.assertEqual(degrees.most(2, by="weight"), [funnel, cyd])
-        self.assertEqual((degrees.most(1, by="incoming"), degrees.most(1, by="into")), ([funnel],) * 2)
-        self.refused(ValueError, "by is 'out', 'into' or 'weight'", lambda: degrees.most(1, by="name"))
-        self.assertEqual(misteluk.Answer(a=1, b=2).most(), [("b", 2), ("a", 1)])
-        self.assertEqual(misteluk.Answer().most(by="weight"), [])
+        self.assertEqual((degrees.top(2), degrees.top(2, by="out")), ([ana, funnel],) * 2)
+        self.assertEqual(degrees.top(2, by="weight"), [funnel, cyd])
+        self.assertEqual((degrees.top(1, by="incoming"), degrees.top(1, by="into")), ([funnel],) * 2)
+        self.refused(ValueError, "by is 'out', 'into' or 'weight'", lambda: degrees.top(1, by="name"))
+        self.assertEqual(misteluk.Answer(a=1, b=2).top(), [("b", 2), ("a", 1)])
+        self.assertEqual(misteluk.Answer().top(by="weight"), [])
 
     def test_the_largest_components(self):
         components = self.store(*FUNNEL, "insert owns zed yan 1 9", "insert owns loner loner 1 9").open().components()
-        self.assertEqual((components.top(2), components.most(1)), ([("ana", 6), ("zed", 2)], [("ana", 6)]))
+        self.assertEqual((components.top(2), components.top(1)), ([("ana", 6), ("zed", 2)], [("ana", 6)]))
         self.assertEqual(components.sizes(), {"ana": 6, "zed": 2, "loner": 1})
         self.refused(ValueError, "by is for degrees", lambda: components.top(by="weight"))
         self.assertEqual(pickle.loads(pickle.dumps(components)).top(1), [("ana", 6)])
@@ -87,7 +87,7 @@ class Stores(Case):
         store.remove("transfer", "ana", "funnel")
         self.assertRegex(repr(store), "^<Store of 64 blocks: 1 of 3 seats open, 1 pending, by .+>$")
         store.discard()
-        store.kill()
+        store._kill()
         self.assertTrue(store.is_closed)
         self.assertEqual(repr(store), "<Store of 64 blocks: closed>")
         self.assertRaises(misteluk.StoreError, session.levels, "ana")
@@ -106,8 +106,8 @@ class Stores(Case):
     def test_a_neighbor_s_edge_outside_of_the_window(self):
         """ana has an edge within the window, and the one to bob isn't."""
         session = self.store("insert k ana bob 1 1", "insert k ana cyd 1 5", "insert k dan bob 1 6").open()
-        self.assertEqual(session.into("bob", since=5), {"dan": Edge(1, 6, 6)})
-        self.assertEqual(session.out_of("ana", until=4), {"bob": Edge(1, 1, 1)})
+        self.assertEqual(session.predecessors("bob", since=5), {"dan": Edge(1, 6, 6)})
+        self.assertEqual(session.successors("ana", until=4), {"bob": Edge(1, 1, 1)})
 
     def test_names_that_look_like_answers(self):
         store = self.store("insert k error end 1 1", "insert k close stat 2 1", 'insert k a,b "q" 3 1', blocks=16384)
@@ -157,14 +157,14 @@ class Stores(Case):
     def test_an_expiry_asks_for_the_used_blocks_too(self):
         store = self.store(*(f"insert k s{it} t 1 1" for it in range(9)), blocks=16)
         store.expire(0)
-        with self.assertRaises(misteluk.PoolEmpty) as told:
+        with self.assertRaises(misteluk.errors.PoolEmpty) as told:
             store.commit()
         self.assertEqual((told.exception.needed, told.exception.free, store.pending), (10, 7, 1))
 
     def test_no_time_to_expire_by(self):
         store = self.store()
         for time in (-1, 2 ** 63):
-            with self.assertRaises(misteluk.BadTime):
+            with self.assertRaises(misteluk.errors.BadTime):
                 store.expire(time)
         self.assertEqual(store.pending, 0)
 
@@ -173,7 +173,7 @@ class Stores(Case):
         session = store.open()
         for it in range(7):
             store.add("k", f"s{it}", "t")
-        with self.assertRaises(misteluk.PoolEmpty) as told:
+        with self.assertRaises(misteluk.errors.PoolEmpty) as told:
             store.commit()
         self.assertEqual((told.exception.needed, told.exception.free, store.pending), (7, 6, 7))
         session.close()
@@ -184,14 +184,14 @@ class Stores(Case):
         store = self.store(*(f"insert k s{it} t 1 1" for it in range(15)), blocks=16)
         for it in range(15, 17):
             store.insert("k", f"s{it}", "t", 1, time=1)
-        with self.assertRaises(misteluk.PoolEmpty) as told:
+        with self.assertRaises(misteluk.errors.PoolEmpty) as told:
             store.commit()
         self.assertRegex(told.exception.advice, r"^Make batches smaller; or give the store more blocks \([\d,]+ at most\)$")
 
     def test_operations_on_their_way_are_not_discarded(self):
         store = self.store()
         store.insert("k", "a", "b", 1, time=1)
-        with mock.patch.object(store.engine, "fly", side_effect=KeyboardInterrupt):
+        with mock.patch.object(store._engine, "fly", side_effect=KeyboardInterrupt):
             self.assertRaises(KeyboardInterrupt, store.commit)
         store.insert("k", "a", "c", 1, time=1)
         self.assertEqual((store.discard(), store.pending), (1, 1))
@@ -202,7 +202,7 @@ class Stores(Case):
         store = self.store(blocks=16)
         for it in range(40):
             store.insert("k", f"s{it}", "t")
-        with self.assertRaises(misteluk.PoolEmpty) as told:
+        with self.assertRaises(misteluk.errors.PoolEmpty) as told:
             store.commit(batch=10)
         self.assertEqual((store.stat().version, store.pending), (1, 30))
         self.assertEqual(told.exception.applied, Commit(1, 10, 0, 0, 0, 0, 1))
@@ -245,22 +245,22 @@ class Stores(Case):
         held, beside = store.open(), store.open()
         self.feed(store, "add knows ann bob 1 20")
         store.add("knows", "ann", "bob", 1, 30)
-        self.assertEqual(store.rebase(held), Rebased(0, 3, 2, 2))
+        self.assertEqual(row(store.compact(held))[:4], (0, 3, 2, 2))
         self.assertEqual((store.stat(), store.pending), (Stat(0, 3, 2, 14, 0, 2), 1))
-        for it in (held.degrees, beside.degrees, lambda: store.rebase(held)):
+        for it in (held.degrees, beside.degrees, lambda: store.compact(held)):
             self.refused(misteluk.SessionClosed, "the session of version 1 is closed", it)
         first = store.open()
-        self.assertEqual((first.version, first.names, first.edge("knows", "ann", "bob")), (0, 3, Edge(5, 10, 10)))
+        self.assertEqual((first.version, first.vertex_count, first.edge("knows", "ann", "bob")), (0, 3, Edge(5, 10, 10)))
         self.assertEqual(store.commit(), Commit(1, 0, 1, 0, 0, 0, 1))
         second = store.open()
         self.assertEqual((second.edge("knows", "ann", "bob"), store.stat().retired), (Edge(6, 10, 30), 1))
-        self.assertEqual(store.rebase(second), Rebased(0, 3, 2, 2))
+        self.assertEqual(row(store.compact(second))[:4], (0, 3, 2, 2))
         self.assertEqual(store.stat(), Stat(0, 3, 2, 14, 0, 2))
 
     def test_another_store_s_session(self):
         store, other = self.store(), self.store()
         session = other.open()
-        self.refused(ValueError, "is another store's", lambda: store.rebase(session))
+        self.refused(ValueError, "is another store's", lambda: store.compact(session))
         self.assertEqual(session.degrees(), {})
 
     def refused(self, word: type, told: str, call) -> None:
@@ -270,13 +270,13 @@ class Stores(Case):
 
     def test_wrong_operations_are_told_at_once(self):
         store = self.store()
-        self.refused(misteluk.BadName, "source '': a name has at least one byte", lambda: store.insert("k", "", "c"))
-        self.refused(misteluk.BadName, "a kind is not *", lambda: store.insert("*", "a", "c"))
-        self.refused(misteluk.BadWeight, "amount '1099511627777': a weight is from",
+        self.refused(misteluk.errors.BadName, "source '': a name has at least one byte", lambda: store.insert("k", "", "c"))
+        self.refused(misteluk.errors.BadName, "a kind is not *", lambda: store.insert("*", "a", "c"))
+        self.refused(misteluk.errors.BadWeight, "amount '1099511627777': a weight is from",
                      lambda: store.add("k", "a", "b", 1 << 40 | 1))
-        self.refused(misteluk.BadTime, "time '-1'", lambda: store.insert("k", "a", "b", 1, -1))
-        self.refused(misteluk.BadWeight, "weight '5.5'", lambda: store.insert("k", "a", "b", 5.5))
-        self.refused(misteluk.BadWeight, "weight 'inf'", lambda: store.insert("k", "a", "b", float("inf")))
+        self.refused(misteluk.errors.BadTime, "time '-1'", lambda: store.insert("k", "a", "b", 1, -1))
+        self.refused(misteluk.errors.BadWeight, "weight '5.5'", lambda: store.insert("k", "a", "b", 5.5))
+        self.refused(misteluk.errors.BadWeight, "weight 'inf'", lambda: store.insert("k", "a", "b", float("inf")))
         self.refused(TypeError, "a kind and a name are texts, and not 7", lambda: store.insert("k", "a", 7))
         self.assertEqual(store.pending, 0)
 
@@ -287,7 +287,7 @@ class Stores(Case):
         store.add("k", "a", "b", 2.0, 4.0)
         store.commit()
         store.load([("a", "c", 1.0, 3.0, "k")], by="set")
-        self.assertEqual(store.open().edges([("k", "a", "b"), ("k", "a", "c")]), [Edge(3, 3, 4), Edge(1, 3, 3)])
+        self.assertEqual(store.open().get_edges([("k", "a", "b"), ("k", "a", "c")]), [Edge(3, 3, 4), Edge(1, 3, 3)])
         store.expire(4.0)
         self.assertEqual(store.commit().expired, 1)
 
@@ -298,7 +298,7 @@ class Stores(Case):
         store.insert("**", "*", "!", 999_999_999_999, 999_999_999_999_999_999)
         store.remove("k", "a,b", "c")
         self.assertEqual(store.commit(), Commit(1, 2, 2, 0, 1, 0, 1))
-        edges = store.open().edges([("k", "x" * 64, '",*' * 21), ("**", "*", "!")])
+        edges = store.open().get_edges([("k", "x" * 64, '",*' * 21), ("**", "*", "!")])
         late = 999_999_999_999_999_999
         self.assertEqual(edges, [Edge(0, (1 << 63) - 1, 10 ** 18), Edge(999_999_999_999, late, late)])
 
@@ -306,34 +306,37 @@ class Stores(Case):
         store = self.store("insert k a b 1 1")
         session = store.open()
         self.refused(misteluk.NoVertex, "edge('k', 'a', 'z')", lambda: session.edge("k", "a", "z"))
-        self.refused(misteluk.NoKind, "no edge of this kind", lambda: session.degrees("other"))
-        self.refused(misteluk.BadWindow, "levels('a', since=3, until=2)", lambda: session.levels("a", since=3, until=2))
-        self.refused(misteluk.BadName, "source ''", lambda: session.levels(""))
-        self.refused(misteluk.BadName, "target ''", lambda: session.edges([("k", "a", "b"), ("k", "a", "")]))
-        self.refused(misteluk.BadName, "kind '*'", lambda: session.edges([("*", "a", "b")], missing=None))
-        self.refused(misteluk.BadSlot, "the slots are 0 to 1", lambda: store.open(2))
-        self.refused(misteluk.AlreadyOpen, "open(0)", lambda: store.open(0))
-        self.refused(LookupError, "", lambda: session.into("z", "k"))
-        self.refused(misteluk.BadWindow, "since 2 is after until 1", lambda: session.into("a", since=2, until=1))
+        self.refused(misteluk.errors.NoKind, "no edge of this kind", lambda: session.degrees("other"))
+        self.refused(misteluk.errors.BadWindow, "levels('a', since=3, until=2)", lambda: session.levels("a", since=3, until=2))
+        self.refused(misteluk.errors.BadName, "source ''", lambda: session.levels(""))
+        self.refused(misteluk.errors.BadName, "target ''", lambda: session.get_edges([("k", "a", "b"), ("k", "a", "")]))
+        self.refused(misteluk.errors.BadName, "kind '*'", lambda: session.get_edges([("*", "a", "b")], missing=None))
+        self.refused(misteluk.errors.BadSlot, "the slots are 0 to 1", lambda: store._open(2))
+        self.refused(misteluk.errors.AlreadyOpen, "open(0)", lambda: store._open(0))
+        self.refused(LookupError, "", lambda: session.predecessors("z", "k"))
+        self.refused(misteluk.errors.BadWindow, "since 2 is after until 1", lambda: session.predecessors("a", since=2, until=1))
         self.assertEqual(session.degrees()["a"], Degree(1, 0, 1))
 
     def test_seats(self):
         store = self.store(seats=1)
         with store.open() as session:
-            self.refused(misteluk.NoSeat, "all 1 seats hold sessions", store.open)
+            self.refused(misteluk.errors.NoSeat, "all 1 seats hold sessions", store.open)
         self.refused(misteluk.SessionClosed, "the session of version 0 is closed", session.degrees)
         session.close()
         store.open().close()
 
     def test_arguments(self):
-        for wrong in ({"blocks": 15}, {"blocks": 1 << 32}, {"seats": 17}, {"seats": 0}, {"weight_scale": 0}, {"weight_scale": -1},
-                      {"weight_scale": 3}):
+        for wrong in ({"blocks": 15}, {"blocks": 1 << 32}, {"seats": 17}, {"seats": 0}):
             with self.assertRaises(ValueError):
                 Store(**wrong)
-        self.assertEqual(self.store("insert k a b 1 1", blocks=16, seats=16).open(15).version, 1)
+        for wrong in ({"weight_scale": 0}, {"weight_scale": -1}, {"weight_scale": 3}, {"times": "iso8601"},
+                      {"decimals": "exact"}):
+            with self.assertRaises(ValueError):
+                Units(**wrong)
+        self.assertEqual(self.store("insert k a b 1 1", blocks=16, seats=16)._open(15).version, 1)
 
     def test_nothing_is_lost_unsaid(self):
-        with self.assertRaises(misteluk.Uncommitted) as told:
+        with self.assertRaises(misteluk.errors.Uncommitted) as told:
             with Store() as store:
                 store.insert("k", "a", "b")
         self.assertEqual(told.exception.operations, ["i,k,a,b,1,0\n"])

@@ -1,5 +1,6 @@
 """Plain rows of values, each worked out by hand: lengths of time, parts of weights, ties, and what a difference sees."""
 import gzip
+from dataclasses import replace
 import unittest
 from datetime import timedelta
 from decimal import Decimal
@@ -76,11 +77,11 @@ class Parts(Case):
     def test_to_the_user(self):
         """Each part as it is written, its sign before a zero too."""
         for scale, rows in PARTS.items():
-            units = Units(scale).checked()
+            units = Units(scale)
             for parts, text in rows:
                 self.assertEqual(str(units.weight_to_user(parts)), text)
                 if scale > 1:
-                    self.assertEqual(str(units._replace(decimals="float").weight_to_user(parts)), str(float(text)))
+                    self.assertEqual(str(replace(units, decimals="float").weight_to_user(parts)), str(float(text)))
             column = [parts for parts, _ in rows]
             self.assertEqual(list(map(str, units.all_weights_to_user(column))), [text for _, text in rows])
 
@@ -93,7 +94,7 @@ class Parts(Case):
             self.assertEqual(list(units.weights_of([*texts, "x"])), [*column, None])
 
     def test_answers(self):
-        store = self.store(weight_scale=100)
+        store = self.store(units=Units(weight_scale=100))
         rows = [(parts, text) for parts, text in PARTS[100] if parts]
         for at, (_, text) in enumerate(rows):
             store.insert("k", f"s{at}", "t", text)
@@ -102,12 +103,12 @@ class Parts(Case):
             for at, (parts, text) in enumerate(rows):
                 self.assertEqual(str(session.edge("k", f"s{at}", "t").weight), text)
                 self.assertEqual(str(session.degrees()[f"s{at}"].weight_out), text)
-            self.assertEqual(session.edges_columns().weight.tolist(), [parts for parts, _ in rows])
+            self.assertEqual(session.edges().weight.tolist(), [parts for parts, _ in rows])
 
     def test_rounding(self):
         """Of negative numbers as of positive ones."""
         for scale, rows in HALVES.items():
-            units = Units(scale, rounding="half-even").checked()
+            units = Units(scale, rounding="half-even")
             for text, parts in chain(rows, ((f"-{text}", -parts) for text, parts in rows)):
                 self.assertEqual(units.weight_to_program(text), str(parts), (scale, text))
                 self.assertEqual(list(units.weights_of([text, "1"])), [parts, scale], (scale, text))
@@ -121,7 +122,7 @@ class Parts(Case):
                 lambda store: store.load([(f"s{at}", "t", float(text)) for at, (text, _) in enumerate(rows)], by="add"),
                 lambda store: store.load(self.file("rows.csv", text), by="add", columns=columns))
         for way in ways:
-            store = self.store(weight_scale=100, rounding="half-even")
+            store = self.store(units=Units(weight_scale=100, rounding="half-even"))
             way(store)
             store.commit()
             with store.open() as session:
@@ -142,7 +143,7 @@ class Ties(Case):
         for target, weight, _, recent in self.ROWS:
             store.insert("k", "s", target, weight, recent)
         store.commit()
-        edges = store.open().edges_columns()
+        edges = store.open().edges()
         self.assertEqual(list(edges), [("k", "s", target, Edge(*values)) for target, *values in self.ROWS])
         for by, wanted in (("weight", "acedbf"), ("first", "fbcdae"), ("recent", "adebcf")):
             for count in range(8):
@@ -180,7 +181,7 @@ class Differences(Case):
             self.assertEqual([it for it in Edge._fields if getattr(one, it) != getattr(other, it)], [field] if field else [])
             self.assertEqual([(it.before, it.after) for it in diff.changed], [(one, other)] if field else [], field)
             self.assertEqual((len(diff.gone), len(diff.new)), (0, 0))
-            changed, both = [0] * bool(field), (earlier.edges_columns(), later.edges_columns())
+            changed, both = [0] * bool(field), (earlier.edges(), later.edges())
             for found in (places_of(*both), *([places_at_once(numpy, *both)] if numpy else [])):
                 self.assertEqual(list(map(list, found)), [[], [], changed, changed], field)
 

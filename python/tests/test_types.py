@@ -38,31 +38,32 @@ class Types(Case):
         """A user's program, which sees stores and sessions of several units."""
         return self.file("user.py", "\n".join([
             "from datetime import datetime", "from decimal import Decimal", "from typing import Optional, Union, List",
-            "from misteluk import Degree, Edge, Session, Store", "",
-            "cents = Store(weight_scale=100, times='iso')", "cents.add('k', 'a', 'b', '1.50', '2024-03-04')", "cents.commit()",
-            "floats = Store(weight_scale=100, decimals='float')", "floats.add('k', 'a', 'b', 1.5)", "floats.commit()",
-            "whole = Store(times='number')", "whole.add('k', 'a', 'b', 7, 3)", "whole.commit()", "", *lines,
+            "from misteluk import Degree, Edge, Edges, Session, Store, Units", "",
+            "cents = Store(units=Units(weight_scale=100, times='iso'))", "cents.add('k', 'a', 'b', '1.50', '2024-03-04')",
+            "cents.commit()", "floats = Store(units=Units(weight_scale=100, decimals='float'))", "floats.add('k', 'a', 'b', 1.5)",
+            "floats.commit()",
+            "whole = Store(units=Units(1, 'number'))", "whole.add('k', 'a', 'b', 7, 3)", "whole.commit()", "", *lines,
             "cents.close()", "floats.close()", "whole.close()", ""]))
 
     def test_a_user_s_program(self):
         """What mypy takes for the types of weights and times are those that they have: the program is run too."""
         path = self.of_user(
             "def total(session: Session[Decimal, datetime]) -> Decimal:",
-            "    return sum((it.weight for it in session.into('b').values()), Decimal(0))", "",
+            "    return sum((it.weight for it in session.predecessors('b').values()), Decimal(0))", "",
             "with cents.open() as session:",
             "    edge: Optional[Edge[Decimal, datetime]] = session.edge('k', 'a', 'b')",
             "    assert edge is not None and isinstance(edge.weight, Decimal) and edge.recent.year == 2024",
             "    degree: Degree[Decimal] = session.degrees()['a']",
             "    assert total(session) == degree.weight_out == session.weights_in()['b'] == Decimal('1.50')",
-            "    found: List[Optional[Edge[Decimal, datetime]]] = session.edges([('k', 'a', 'b')])",
-            "    others: List[Union[Edge[Decimal, datetime], None, str]] = session.edges([('k', 'a', 'c')], missing='none')",
+            "    found: List[Optional[Edge[Decimal, datetime]]] = session.get_edges([('k', 'a', 'b')])",
+            "    others: List[Union[Edge[Decimal, datetime], None, str]] = session.get_edges([('k', 'a', 'c')], missing='none')",
             "    assert found == [edge] and others == ['none']",
             "    days = [it.first.date().isoformat() for _, _, _, it in session.edges('k')]",
             "    both = session.neighbors('a')['b'].out", "    assert days == ['2024-03-04'] and both is not None",
             "    hours: int = both.recent.hour",
-            "weight: float = list(floats.open().out_of('a').values())[0].weight", "assert type(weight) is float",
+            "weight: float = list(floats.open().successors('a').values())[0].weight", "assert type(weight) is float",
             "seven: int = list(whole.open().edges())[0][3].weight", "assert type(seven) is int",
-            "with Store(weight_scale=1, times='iso') as one:", "    dated: Session[int, datetime] = one.open()",
+            "with Store(units=Units(1, 'iso')) as one:", "    dated: Session[int, datetime] = one.open()",
             "unknown = Store()", "exact: Store[int, int] = unknown", "exact.close()")
         done = self.judge(pathlib.Path(path))
         self.assertEqual((done.returncode, done.stdout), (0, "Success: no issues found in 1 source file\n"))
@@ -72,14 +73,19 @@ class Types(Case):
 
     def test_faults_of_a_user_s_program(self):
         """Each line is refused, and no other one: weights and times of other types, and what may be `None`."""
-        wrong = ["cents.open().edges([('k', 'a', 'b')])[0].weight",
-                 "text: str = list(cents.open().into('b').values())[0].weight",
+        wrong = ["cents.open().get_edges([('k', 'a', 'b')])[0].weight",
+                 "text: str = list(cents.open().predecessors('b').values())[0].weight",
                  "number: int = list(cents.open().edges())[0][3].recent",
                  "late = list(whole.open().edges())[0][3].recent.year",
-                 "mixed = list(cents.open().into('b').values())[0].weight + list(floats.open().into('b').values())[0].weight",
+                 "mixed = cents.open().predecessors('b')['a'].weight + floats.open().predecessors('b')['a'].weight",
                  "near = whole.open().neighbors('a')['b'].out.weight", "sums: str = whole.open().weights_in()['b']",
                  "degree: Degree[Decimal] = whole.open().degrees()['a']", "misspelt = list(whole.open().edges())[0][3].wieght",
-                 "other: Session[int, int] = cents.open()", "none = Store(weight_scale='100')"]
+                 "other: Session[int, int] = cents.open()", "none = Units(weight_scale='100')",
+                 "rounded = Units(100, rounding='up')", "cents.load([('a', 'b')], by='sum')",
+                 "cents.load([('a', 'b')], by='set', colums=None)", "cents.load([('a', 'b')], by='set', format='csv')",
+                 "later: Edges[int, int] = cents.open().edges()", "heavy: int = cents.open().edges().top(1)[0][3].weight",
+                 "cut = Store(block=16)", "gone: int = cents.open().diff(cents.open()).changed[0].before.weight",
+                 "walk: str = (cents.open().path('a', 'b', edges=True) or [])[0][3].weight"]
         path = self.of_user(*wrong)
         told = self.judge(pathlib.Path(path)).stdout
         first = 1 + pathlib.Path(path).read_text().split("\n").index(wrong[0])

@@ -8,13 +8,14 @@ from fractions import Fraction
 from support import Case, CommandCase, words_of
 
 import misteluk
-from misteluk import Columns, Commit, Degree, Edge, Feed, Store
+from misteluk import Columns, Commit, Degree, Edge, Store, errors
+from misteluk.feeds.feed import Feed
 from misteluk.values import units
 from misteluk.values.units import Units
 
 DAY = 86_400 * 10 ** 6
 FOURTH = 19_786 * DAY
-CENTS = Units(100, "iso").checked()
+CENTS = Units(100, "iso")
 
 
 def utc(*parts: int) -> datetime:
@@ -44,7 +45,7 @@ class Weights(Case):
 
     def test_rounding(self):
         """To the nearest part; of two equally near ones to the even one, as bankers do."""
-        half_even = Units(100, rounding="half-even").checked()
+        half_even = Units(100, rounding="half-even")
         for text, parts in (("0.30000000000000004", "30"), ("12.345", "1234"), ("12.355", "1236"), ("12.3450001", "1235"),
                             ("-12.345", "-1234"), ("-12.355", "-1236"), ("0.004", "0"), ("-0.004", "0"), ("1e-30", "0"),
                             ("12.5", "1250"), ("10995116277.76", "1099511627776")):
@@ -54,34 +55,34 @@ class Weights(Case):
         whole = Units(rounding="half-even")
         self.assertEqual([whole.weight_to_program(it) for it in ("12", "12.5", "13.5", "-0.5")], ["12", "12", "14", "0"])
         with self.assertRaisesRegex(ValueError, "rounding is 'half-even' or None, and not 'up'"):
-            Store(rounding="up")
+            Store(units=Units(rounding="up"))
 
     def test_a_store_that_rounds(self):
-        store = self.store(weight_scale=100, rounding="half-even")
-        with self.assertRaises(misteluk.BadWeight):
-            self.store(weight_scale=100).add("k", "a", "b", 0.1 + 0.2)
+        store = self.store(units=Units(weight_scale=100, rounding="half-even"))
+        with self.assertRaises(misteluk.errors.BadWeight):
+            self.store(units=Units(weight_scale=100)).add("k", "a", "b", 0.1 + 0.2)
         store.add("k", "a", "b", 0.1 + 0.2)
         store.commit()
         store.load([("a", "c", 2.675), ("a", "d", 0.125)], by="set")
         session = store.open()
         self.assertEqual(session.edge("k", "a", "b").weight, Decimal("0.30"))
-        self.assertEqual([it.weight for it in session.out_of("a", "link").values()], [Decimal("2.68"), Decimal("0.12")])
+        self.assertEqual([it.weight for it in session.successors("a", "link").values()], [Decimal("2.68"), Decimal("0.12")])
         rows = self.file("rows.csv", "a,b,0.125\n")
-        self.assertEqual(misteluk.survey(rows, by="set", columns=Columns(1, 2, weight=3), weight_scale=100).bad, 1)
-        self.assertEqual(misteluk.survey(rows, by="set", columns=Columns(1, 2, weight=3), weight_scale=100,
-                                         rounding="half-even").bad, 0)
+        self.assertEqual(misteluk.survey(rows, by="set", columns=Columns(1, 2, weight=3), units=Units(weight_scale=100)).bad, 1)
+        self.assertEqual(misteluk.survey(rows, by="set", columns=Columns(1, 2, weight=3),
+                                         units=Units(100, rounding="half-even")).bad, 0)
 
     def test_a_load_that_rounds(self):
         """Its own rows alone: what the store takes beside them, and another load, are as exact as before."""
-        store, rows = self.store(weight_scale=100), self.file("rows.csv", "a,b,0.125\n")
+        store, rows = self.store(units=Units(weight_scale=100)), self.file("rows.csv", "a,b,0.125\n")
         how = {"by": "add", "columns": Columns(1, 2, weight=3)}
         self.assertRaises(misteluk.BadRows, store.load, rows, **how)
-        store.load(rows, rounding="half-even", **how)
-        self.assertRaises(misteluk.BadWeight, store.add, "link", "a", "b", "0.125")
+        store.load(rows, units=Units(rounding="half-even"), **how)
+        self.assertRaises(misteluk.errors.BadWeight, store.add, "link", "a", "b", "0.125")
         self.assertRaises(misteluk.BadRows, store.load, rows, **how)
         self.assertEqual(store.open().edge("link", "a", "b").weight, Decimal("0.12"))
         with self.assertRaisesRegex(ValueError, "rounding is 'half-even' or None, and not 'up'"):
-            store.load(rows, rounding="up", **how)
+            store.load(rows, units=Units(rounding="up"), **how)
 
     def test_to_the_user(self):
         for scale, parts, text in ((100, 1250, "12.50"), (100, -5, "-0.05"), (8, 3, "0.375"), (1000, 1, "0.001"), (10, 0, "0.0"),
@@ -95,7 +96,7 @@ class Weights(Case):
     def test_no_units(self):
         for wrong in ((0,), (-1,), (3,), (1 << 41,), (1, "days"), (1, "iso", "cents")):
             with self.assertRaises(ValueError):
-                Units(*wrong).checked()
+                Units(*wrong)
 
 
 class Times(Case):
@@ -131,7 +132,7 @@ class Times(Case):
 
 class Stores(Case):
     def cents(self, **options) -> Store:
-        return self.store(**{"weight_scale": 100, "times": "iso", **options})
+        return self.store(**{"units": Units(weight_scale=100, times="iso"), **options})
 
     def filled(self, **options) -> Store:
         """Two payments of ana to bob, 0.1 and 0.2, on the fourth and the fifth; one of bob to cyd of 12.50, a day later."""
@@ -148,11 +149,11 @@ class Stores(Case):
         second = Edge(Decimal("12.50"), *[utc(2024, 3, 6, 23, 0, 0, 1)] * 2)
         self.assertEqual(session.edge("k", "ana", "bob"), first)
         self.assertEqual(str(session.edge("k", "ana", "bob").weight), "0.30")
-        self.assertEqual(session.edges([("k", "bob", "cyd"), ("k", "cyd", "bob")]), [second, None])
+        self.assertEqual(session.get_edges([("k", "bob", "cyd"), ("k", "cyd", "bob")]), [second, None])
         self.assertEqual(session.degrees(), {"ana": Degree(1, 0, Decimal("0.3")), "bob": Degree(1, 1, Decimal("12.5")),
                                              "cyd": Degree(0, 1, 0)})
         self.assertEqual(sum(it.weight_out for it in session.degrees().values()), Decimal("12.80"))
-        self.assertEqual((session.into("bob"), session.out_of("bob")), ({"ana": first}, {"cyd": second}))
+        self.assertEqual((session.predecessors("bob"), session.successors("bob")), ({"ana": first}, {"cyd": second}))
 
     def test_windows(self):
         session = self.filled().open()
@@ -161,17 +162,17 @@ class Stores(Case):
                                      ("2024-03-06", "2024-03-06T23:00", set()), (date(2024, 3, 6), (1 << 63) - 1, {"bob"})):
             found = {name for name, it in session.degrees(since=since, until=until).items() if it.out}
             self.assertEqual(found, wanted, (since, until))
-            self.assertEqual(bool(session.out_of("ana", since=since, until=until)), "ana" in wanted)
+            self.assertEqual(bool(session.successors("ana", since=since, until=until)), "ana" in wanted)
             self.assertEqual("cyd" in session.levels("bob", since=since, until=until), "bob" in wanted)
             self.assertEqual(session.components(since=since, until=until)["cyd"] != "cyd", "bob" in wanted)
             self.assertEqual(max(session.cores(since=since, until=until).values()), int(bool(wanted)))
         self.assertEqual("degrees(since='2024-03-05', until='2024-03-06')",
                          session.degrees(since="2024-03-05", until="2024-03-06").request)
-        with self.assertRaisesRegex(misteluk.BadWindow, "since 2024-03-06 is after until 2024-03-05"):
+        with self.assertRaisesRegex(misteluk.errors.BadWindow, "since 2024-03-06 is after until 2024-03-05"):
             session.degrees(since="2024-03-06", until="2024-03-05")
 
     def test_floats(self):
-        session = self.filled(decimals="float").open()
+        session = self.filled(units=Units(weight_scale=100, times="iso", decimals="float")).open()
         self.assertEqual((session.edge("k", "ana", "bob").weight, session.degrees()["bob"].weight_out), (0.3, 12.5))
 
     def test_expiry(self):
@@ -183,14 +184,14 @@ class Stores(Case):
     def test_what_is_told_where_it_is_no_unit(self):
         store, session = self.cents(), None
         for call, word, told in (
-                (lambda: store.insert("k", "a", "b", "12.505"), misteluk.BadWeight,
+                (lambda: store.insert("k", "a", "b", "12.505"), misteluk.errors.BadWeight,
                  "weight '12.505': a weight has at most 2 decimals"),
-                (lambda: store.add("k", "a", "b", 0.001), misteluk.BadWeight, "amount '0.001'"),
-                (lambda: store.insert("k", "a", "b", 1, 5), misteluk.BadTime, "time '5': a time is a date here"),
-                (lambda: store.insert("k", "a", "b", 1, "2024-03-04T00:00:00.0000001"), misteluk.BadTime, "would be cut off"),
-                (lambda: store.expire("soon"), misteluk.BadTime, "time 'soon'"),
-                (lambda: store.open().degrees(since="soon"), misteluk.BadTime, "since 'soon'"),
-                (lambda: store.open(1).levels("a", until=7), misteluk.BadTime, "until '7'")):
+                (lambda: store.add("k", "a", "b", 0.001), misteluk.errors.BadWeight, "amount '0.001'"),
+                (lambda: store.insert("k", "a", "b", 1, 5), misteluk.errors.BadTime, "time '5': a time is a date here"),
+                (lambda: store.insert("k", "a", "b", 1, "2024-03-04T00:00:00.0000001"), errors.BadTime, "would be cut off"),
+                (lambda: store.expire("soon"), misteluk.errors.BadTime, "time 'soon'"),
+                (lambda: store.open().degrees(since="soon"), misteluk.errors.BadTime, "since 'soon'"),
+                (lambda: store._open(1).levels("a", until=7), misteluk.errors.BadTime, "until '7'")):
             with self.assertRaises(word) as fault:
                 call()
             self.assertIn(told, str(fault.exception))
@@ -200,14 +201,14 @@ class Stores(Case):
     def test_without_units_all_stays_whole(self):
         store = self.store("insert k a b 1250 7")
         self.assertEqual(repr(store.open().edge("k", "a", "b")), "Edge(weight=1250, first=7, recent=7)")
-        with self.assertRaisesRegex(misteluk.BadWeight, "weight_scale=100"):
+        with self.assertRaisesRegex(misteluk.errors.BadWeight, "weight_scale=100"):
             store.insert("k", "a", "b", "12.5")
-        with self.assertRaisesRegex(misteluk.BadTime, "times='iso'"):
+        with self.assertRaisesRegex(misteluk.errors.BadTime, "times='iso'"):
             store.insert("k", "a", "b", 1, "2024-03-04")
 
     def test_what_is_lost_is_told_in_units(self):
-        with self.assertRaises(misteluk.Uncommitted) as told:
-            with Store(weight_scale=100, times="iso") as store:
+        with self.assertRaises(misteluk.errors.Uncommitted) as told:
+            with Store(units=Units(weight_scale=100, times="iso")) as store:
                 store.insert("k", "a", "b", 12.5, "2024-03-04")
         self.assertEqual(told.exception.operations, ["i,k,a,b,12.50,2024-03-04 00:00:00+00:00\n"])
 
@@ -220,7 +221,7 @@ class Loads(Case):
 
     def test_a_load_says_the_units(self):
         store = self.store()
-        store.load(self.rows(), by="add", weight_scale=100, times="iso")
+        store.load(self.rows(), by="add", units=Units(weight_scale=100, times="iso"))
         self.assertEqual(store.units, CENTS)
         self.assertEqual(store.open().edge("k", "a", "b"), Edge(Decimal("12.55"), utc(2024, 3, 4), utc(2024, 3, 4, 0, 0, 0,
                                                                                                        1_000)))
@@ -228,54 +229,54 @@ class Loads(Case):
         self.assertEqual(store.open().edge("k", "a", "b").weight, Decimal("25.10"))
 
     def test_units_that_differ(self):
-        found = misteluk.survey(self.rows(), by="add", weight_scale=100, times="iso")
+        found = misteluk.survey(self.rows(), by="add", units=Units(weight_scale=100, times="iso"))
         plain = misteluk.survey(self.rows((1, "k", "a", "b", "1", "1")), by="add")
         told = self.store("insert k a b 1 1")
-        for store, feed, options in ((self.store(weight_scale=10, times="iso"), found, {}), (self.store(weight_scale=100),
+        for store, feed, options in ((self.store(units=Units(10, times="iso")), found, {}), (self.store(units=Units(100)),
                                                                                              found, {}),
-                                     (told, found, {}), (self.store(weight_scale=100, times="iso"), plain, {}),
-                                     (self.store(weight_scale=100), self.rows(), {"times": "iso"}),
-                                     (self.store(times="iso"), self.rows(), {"weight_scale": 100})):
+                                     (told, found, {}), (self.store(units=Units(weight_scale=100, times="iso")), plain, {}),
+                                     (self.store(units=Units(weight_scale=100)), self.rows(), {"units": Units(times="iso")}),
+                                     (self.store(units=Units(times="iso")), self.rows(), {"units": Units(weight_scale=100)})):
             before = store.stat()
             with self.assertRaisesRegex(ValueError, "the store's units are weight_scale="):
                 store.load(feed, by="add", **options)
             self.assertEqual(store.stat(), before)
-        floats = self.store(weight_scale=100, times="iso", decimals="float")
+        floats = self.store(units=Units(weight_scale=100, times="iso", decimals="float"))
         floats.load(found, by="add")
         self.assertEqual(repr(floats.open().degrees()["a"].weight_out), "12.55")
-        self.assertEqual(self.store().load(found, by="add", weight_scale=100, times="iso").commit.version, 1)
+        self.assertEqual(self.store().load(found, by="add", units=Units(weight_scale=100, times="iso")).commit.version, 1)
 
     def test_an_expiry_says_that_there_are_no_units(self):
         store = self.store()
         store.expire(5)
         store.commit()
         with self.assertRaisesRegex(ValueError, "the store's units are weight_scale=1, times='number'"):
-            store.load(self.rows(), by="add", weight_scale=100, times="iso")
+            store.load(self.rows(), by="add", units=Units(weight_scale=100, times="iso"))
 
     def test_a_load_that_fails_says_no_units(self):
         store = self.store()
         with self.assertRaises(misteluk.BadRows):
-            store.load(self.rows((1, "k", "a", "b", "x", "0")), by="add", weight_scale=100)
+            store.load(self.rows((1, "k", "a", "b", "x", "0")), by="add", units=Units(weight_scale=100))
         store.insert("k", "a", "b", 7)
         store.commit()
-        self.assertEqual((store.units, store.open().edge("k", "a", "b").weight), (Units(), 7))
+        self.assertEqual((store.units, store.open().edge("k", "a", "b").weight), (Units(1, "number"), 7))
 
     def test_bad_rows(self):
         rows = [(1, "k", "a", "b", "12.505", "0"), (2, "k", "é", "b", "1", "2024-03-04T00:00:00.0000001"),
                 (3, "k", "a", "b", "1", "7"), (4, "k", "a", "b", "1.50", "2024-03-04"), (5, "k", "", "b", "1", "0")]
         with self.assertRaises(misteluk.BadRows) as told:
-            self.store().load(self.rows(*rows), by="add", weight_scale=100, times="iso")
+            self.store().load(self.rows(*rows), by="add", units=Units(weight_scale=100, times="iso"))
         self.assertEqual([(it.place.line, it.field, it.fault.value) for it in told.exception.faults],
                          [(1, "amount", "12.505"), (2, "time", "2024-03-04T00:00:00.0000001"), (3, "time", "7"), (5, "source",
                                                                                                                   "")])
         self.assertNotIn("weight_scale=100", str(told.exception))
-        found = misteluk.survey(self.rows(*rows), by="add", weight_scale=100, times="iso")
+        found = misteluk.survey(self.rows(*rows), by="add", units=Units(weight_scale=100, times="iso"))
         self.assertEqual((found.bad, [it.text for it in found.parts]), (4, [b"a,k,a,b,150,%d\n" % FOURTH]))
         self.assertEqual(found.times, (utc(2024, 3, 4), utc(2024, 3, 4)))
 
     def test_columns_that_are_not_there(self):
         """A row without a weight or a time has a weight of 1, and the time 0."""
-        store = self.store(weight_scale=100, times="iso")
+        store = self.store(units=Units(weight_scale=100, times="iso"))
         path = self.room / "f.csv"
         path.write_text("a,b\n")
         store.load(str(path), by="set", columns=Columns(1, 2))
@@ -294,9 +295,9 @@ class Banks(Case):
             path = self.room / "bank.csv"
             path.write_bytes(self.TEXT.replace(self.WANG, wang).encode(encoding))
             with self.assertRaisesRegex(ValueError, "the store's units are"):
-                self.store(weight_scale=100).load(path, by="add", dates="dd.mm.yyyy")
+                self.store(units=Units(weight_scale=100)).load(path, by="add", dates="dd.mm.yyyy")
             store = self.store()
-            store.load(path, by="add", weight_scale=100, dates="dd.mm.yyyy", decimal=",", encoding=encoding,
+            store.load(path, by="add", units=Units(weight_scale=100), dates="dd.mm.yyyy", decimal=",", encoding=encoding,
                        columns=Columns("Плательщик", "Получатель", None, "Сумма", "Дата", "платёж"))
             session = store.open()
             wanted = Edge(Decimal("1235"), utc(2024, 3, 4), utc(2024, 3, 5))

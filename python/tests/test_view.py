@@ -13,7 +13,7 @@ from pages import Reader
 from support import HERE, Case
 
 import misteluk
-from misteluk import Edge, Store, view
+from misteluk import Edge, Store, Units, view
 from misteluk.page.drawing import Drawing, curve
 from misteluk.page.layout import HEIGHT, WIDTH, label_within, labels, place
 from misteluk.page.neighborhood import CHANGED, GONE, KEPT, NEW
@@ -69,7 +69,7 @@ def reached(looking):
     """Looks as where the limit for a hop were another than that among the farthest."""
     looking.hops = {"hub": 0, **{f"v{it}": 1 for it in range(1, 21)}}
     with mock.patch("misteluk.page.neighborhood.MOST_ASKED", 99):
-        looking._keep(looking.session.edges_out_of("hub"))
+        looking._keep(looking.session.out_edges("hub"))
         looking._looked["hub"] = None
 
 
@@ -192,7 +192,7 @@ class Views(Case):
         self.assertNotIn("gone", reader.texts)
 
     def test_units(self):
-        store = self.store(weight_scale=100, times="iso")
+        store = self.store(units=Units(weight_scale=100, times="iso"))
         store.add("pays", "a", "b", "1234.50", "2024-05-06")
         store.commit()
         first = store.open()
@@ -207,7 +207,7 @@ class Views(Case):
         self.assertEqual(found.counts[CHANGED], 1)
 
     def test_floats(self):
-        store = self.store(weight_scale=100, decimals="float")
+        store = self.store(units=Units(weight_scale=100, decimals="float"))
         store.add("pays", "a", "b", 0.3)
         store.commit()
         first = store.open()
@@ -225,12 +225,12 @@ class Views(Case):
     def test_what_is_refused(self):
         first, last = self.pair(BEFORE, AFTER)
         self.assertRaises(misteluk.NoVertex, view, first, "zed")
-        self.assertRaises(misteluk.NoKind, view, first, "funnel", kind="transfers")
-        self.assertRaises(misteluk.BadWindow, view, first, "funnel", since=2, until=1)
+        self.assertRaises(misteluk.errors.NoKind, view, first, "funnel", kind="transfers")
+        self.assertRaises(misteluk.errors.BadWindow, view, first, "funnel", since=2, until=1)
         self.assertEqual(view(first, "zed", 1, beside=last).counts, {GONE: 0, NEW: 1, CHANGED: 0, KEPT: 0})
         for wrong in ({"hops": 0}, {"most": 0}, {"most": 301}):
             self.assertRaises(ValueError, view, first, "funnel", **wrong)
-        with Store(weight_scale=100) as other:
+        with Store(units=Units(weight_scale=100)) as other:
             other.insert("transfer", "funnel", "x", 1)
             other.commit()
             self.assertRaisesRegex(ValueError, "other units", view, first, "funnel", beside=other.open())

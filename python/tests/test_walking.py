@@ -7,6 +7,7 @@ from unittest import mock
 from graphs import NAMES, Play
 from support import Case, optional
 
+import misteluk
 from misteluk import Edge, Neighbor, Session
 from misteluk.engine.protocol import Arrays
 from misteluk.values import records
@@ -45,13 +46,13 @@ def of_vertex(session, graph, name, window, hops):
     into = both((it[1], edge) for it, edge in view if it[2] == name)
     levels, near = reached(view, name), reached(view, name, True)
     wanted = {
-        "out_of": out, "into": into, "neighbors": {it: Neighbor(out.get(it), into.get(it)) for it in {*out, *into}},
-        "within": {it: level for it, level in levels.items() if level <= hops},
+        "successors": out, "predecessors": into, "neighbors": {it: Neighbor(out.get(it), into.get(it)) for it in {*out, *into}},
+        "neighborhood": {it: level for it, level in levels.items() if level <= hops},
         "within either way": {it: level for it, level in near.items() if level <= hops}, "in": True}
     found = {
-        "out_of": session.out_of(name, *window), "into": session.into(name, *window),
-        "neighbors": session.neighbors(name, *window), "within": session.within(name, hops, *window),
-        "within either way": session.within(name, hops, *window, directed=False), "in": name in session}
+        "successors": session.successors(name, *window), "predecessors": session.predecessors(name, *window),
+        "neighbors": session.neighbors(name, *window), "neighborhood": session.neighborhood(name, hops, *window),
+        "within either way": session.neighborhood(name, hops, *window, directed=False), "in": session.has_vertex(name)}
     differ = [it for it in wanted if found[it] != wanted[it]]
     for other in graph.names:
         walk = session.path(name, other, *window)
@@ -70,9 +71,9 @@ def of_all(session, graph, window):
     found = list(session.edges(kind=window[0], since=window[1], until=window[2]))
     differ = [] if sorted(found) == sorted((*it, edge) for it, edge in view) else ["edges"]
     differ += [] if session.weights_in(*window) == weights else ["weights_in"]
-    differ += [] if len(session) == len(graph) else ["len"]
+    differ += [] if session.edge_count == len(graph) else ["len"]
     few = [(kind, a, b) for kind in ("k", "nix") for a in NAMES[:3] for b in ("v1", "nobody")]
-    return differ + ([] if [it in session for it in few] == [it in graph for it in few] else ["in"])
+    return differ + ([] if [session.has_edge(*it) for it in few] == [it in graph for it in few] else ["in"])
 
 
 def of_networkx(session, graph, name, window):
@@ -89,9 +90,9 @@ def of_networkx(session, graph, name, window):
             walk is not None and networkx.is_path(wanted, walk) and len(walk) == lengths[other] + 1)
         differ += [] if is_right else ["path"]
     near = dict(networkx.single_source_shortest_path_length(wanted.to_undirected(), name, 2))
-    differ += [] if session.within(name, 2, *window, directed=False) == near else ["within"]
-    differ += [] if set(session.out_of(name, *window)) == set(wanted.successors(name)) else ["out_of"]
-    differ += [] if set(session.into(name, *window)) == set(wanted.predecessors(name)) else ["into"]
+    differ += [] if session.neighborhood(name, 2, *window, directed=False) == near else ["neighborhood"]
+    differ += [] if set(session.successors(name, *window)) == set(wanted.successors(name)) else ["successors"]
+    differ += [] if set(session.predecessors(name, *window)) == set(wanted.predecessors(name)) else ["predecessors"]
     return differ + ([] if session.weights_in(*window) == dict(wanted.in_degree(weight="weight")) else ["weights_in"])
 
 
@@ -106,7 +107,7 @@ class Walks(Case):
                 for session, graph in [*play.held, (last, play.now)]:
                     try:
                         differ += (beside or self.beside_the_model)(play.random, session, graph) if graph.names else []
-                    except StopIteration:
+                    except misteluk.StoreError:
                         differ.append("no step of a path")
         return differ
 
@@ -143,17 +144,17 @@ class Walks(Case):
     def test_a_planted_difference_is_found(self):
         def fewer(found):
             return {it: value for it, value in list(found.items())[1:]}
-        for name in ("out_of", "into", "neighbors"):
+        for name in ("successors", "predecessors", "neighbors"):
             self.planted(name, Session, name, fewer)
-        for name in ("within", "weights_in"):
+        for name in ("neighborhood", "weights_in"):
             self.planted(name, Session, name, lambda found: {it: value + 1 for it, value in found.items()})
         self.planted("path", Session, "path", lambda walk: walk and [walk[0], *walk])
         self.planted("path", Session, "path", lambda walk: None)
         self.planted("edges", Session, "edges", lambda found: [(*ends, edge._replace(first=0)) for *ends, edge in found])
-        self.planted("in", Session, "__contains__", lambda found: True)
-        self.planted("within either way", Session, "edges_out_of", lambda found: found[:0])
+        self.planted("in", Session, "has_edge", lambda found: True)
+        self.planted("within either way", Session, "out_edges", lambda found: found[:0])
         self.planted("edges", Arrays, "places", lambda found: found[1:])
-        self.planted("no step of a path", Session, "edges_into", lambda found: found[:0])
+        self.planted("no step of a path", Session, "in_edges", lambda found: found[:0])
         if networkx:
             self.planted("to_networkx", Session, "to_networkx", lambda it: it.reverse(), beside=self.beside_networkx)
 

@@ -10,7 +10,7 @@ from support import IS_SERVED, Case, optional
 
 import misteluk
 from misteluk.engine.asked import Answers
-from misteluk import Edge, Neighbor, Store
+from misteluk import Edge, Neighbor, Store, Units
 
 pandas = optional("pandas")
 
@@ -36,36 +36,36 @@ class Calls(Case):
     def test_one_vertex(self):
         session = self.store("insert k a b 3 1", "insert l a b 4 5", "insert k b a 1 2", "insert k a a 9 3",
                              "insert k c c 1 1").open()
-        self.assertEqual(session.out_of("a"), {"b": Edge(7, 1, 5), "a": Edge(9, 3, 3)})
-        self.assertEqual(session.out_of("a", "k"), {"b": Edge(3, 1, 1), "a": Edge(9, 3, 3)})
-        self.assertEqual(session.into("a", since=3), {"a": Edge(9, 3, 3)})
+        self.assertEqual(session.successors("a"), {"b": Edge(7, 1, 5), "a": Edge(9, 3, 3)})
+        self.assertEqual(session.successors("a", "k"), {"b": Edge(3, 1, 1), "a": Edge(9, 3, 3)})
+        self.assertEqual(session.predecessors("a", since=3), {"a": Edge(9, 3, 3)})
         self.assertEqual(session.neighbors("a", "k", until=2), {"b": Neighbor(Edge(3, 1, 1), Edge(1, 2, 2))})
         self.assertEqual(session.weights_in(), {"a": 10, "b": 7, "c": 1})
         self.assertEqual(session.weights_in("l"), {"a": 0, "b": 4, "c": 0})
         self.assertEqual((session.path("a", "b"), session.path("b", "c"), session.path("c", "c")), (["a", "b"], None, ["c"]))
-        self.assertEqual((len(session), bool(session), "a" in session, "z" in session, "" in session),
+        self.assertEqual((session.edge_count, bool(session), *map(session.has_vertex, ("a", "z", ""))),
                          (5, True, True, False, False))
-        self.assertEqual([it in session for it in (("k", "a", "b"), ("l", "b", "a"), ("k", "z", "b"), ("", "a", "b"))],
+        self.assertEqual([session.has_edge(*it) for it in (("k", "a", "b"), ("l", "b", "a"), ("k", "z", "b"), ("", "a", "b"))],
                          [True, False, False, False])
+        self.assertEqual((session.vertices(), session.kinds(), session.vertex_count), (("a", "b", "c"), ("k", "l"), 3))
         self.assertEqual(list(session.edges(kind="l")), [("l", "a", "b", Edge(4, 5, 5))])
-        self.assertEqual(session.out_of("b", "l"), {})
-        self.assertEqual(session.within("b", 10 ** 18, directed=False), {"b": 0, "a": 1})
-        self.assertEqual(session.within("b", 0, directed=False), {"b": 0})
+        self.assertEqual(session.successors("b", "l"), {})
+        self.assertEqual(session.neighborhood("b", 10 ** 18, directed=False), {"b": 0, "a": 1})
+        self.assertEqual(session.neighborhood("b", 0, directed=False), {"b": 0})
 
     def test_edges_of_a_kind(self):
         """The kind comes first, as in other calls."""
         session = self.store("insert k a b 3 1", "insert l a b 4 5", "insert l b c 4 7").open()
         self.assertEqual(list(session.edges("l")), list(session.edges(kind="l")))
         self.assertEqual(list(session.edges("l", since=6)), [("l", "b", "c", Edge(4, 7, 7))])
-        self.refused(misteluk.NoKind, "nix", lambda: session.edges("nix"))
-        self.refused(ValueError, "a kind is said once", lambda: session.edges("l", kind="k"))
+        self.refused(misteluk.errors.NoKind, "nix", lambda: session.edges("nix"))
         for wrong in (["lab"], [("l", "a")], [("l", "a", "b", "c")]):
-            self.refused(TypeError, f"by its kind, source and target, and not by {wrong[0]!r}", lambda: session.edges(wrong))
+            self.refused(TypeError, f"by its kind, source and target, and not by {wrong[0]!r}", lambda: session.get_edges(wrong))
 
     def test_an_empty_session(self):
         session = self.store().open()
-        self.assertEqual((len(session), bool(session), list(session.edges()), session.weights_in()), (0, True, [], {}))
-        self.assertNotIn("a", session)
+        self.assertEqual((session.edge_count, bool(session), list(session.edges()), session.weights_in()), (0, True, [], {}))
+        self.assertFalse(session.has_vertex("a"))
         with self.assertRaises(misteluk.NoVertex):
             session.neighbors("a")
 
@@ -78,25 +78,23 @@ class Calls(Case):
         store = self.store("insert k a b 1 1")
         session = store.open()
         self.feed(store, "insert l y z 1 1")
-        for call in (session.out_of, session.into, session.neighbors, lambda it: session.path("a", it),
-                     lambda it: session.path(it, "a"), lambda it: session.within(it, 1, directed=False),
-                     lambda it: session.within(it, 0, directed=False), lambda it: session.within(it, 1)):
+        for call in (session.successors, session.predecessors, session.neighbors, lambda it: session.path("a", it),
+                     lambda it: session.path(it, "a"), lambda it: session.neighborhood(it, 1, directed=False),
+                     lambda it: session.neighborhood(it, 0, directed=False), lambda it: session.neighborhood(it, 1)):
             self.refused(misteluk.NoVertex, "z", lambda: call("z"))
-            self.refused(misteluk.BadName, "at least one byte", lambda: call(""))
-        for call in (lambda **of: session.out_of("a", **of), lambda **of: session.path("a", "b", **of), session.weights_in,
-                     lambda **of: session.within("a", 1, directed=False, **of), session.edges):
-            self.refused(misteluk.NoKind, "l", lambda: call(kind="l"))
-            self.refused(misteluk.BadWindow, "", lambda: call(since=2, until=1))
-            self.refused(misteluk.BadTime, "", lambda: call(since=-1))
-        self.refused(ValueError, "hops is 0 or more", lambda: session.within("a", -1))
-        self.refused(TypeError, "'str' object cannot be interpreted as an integer", lambda: session.within("a", "2"))
-        self.refused(ValueError, "for all edges", lambda: session.edges([("k", "a", "b")], kind="k"))
-        self.refused(TypeError, "may be in a session", lambda: 3 in session)
+            self.refused(misteluk.errors.BadName, "at least one byte", lambda: call(""))
+        for call in (lambda **of: session.successors("a", **of), lambda **of: session.path("a", "b", **of), session.weights_in,
+                     lambda **of: session.neighborhood("a", 1, directed=False, **of), session.edges):
+            self.refused(misteluk.errors.NoKind, "l", lambda: call(kind="l"))
+            self.refused(misteluk.errors.BadWindow, "", lambda: call(since=2, until=1))
+            self.refused(misteluk.errors.BadTime, "", lambda: call(since=-1))
+        self.refused(ValueError, "hops is 0 or more", lambda: session.neighborhood("a", -1))
+        self.refused(TypeError, "'str' object cannot be interpreted as an integer", lambda: session.neighborhood("a", "2"))
         edges = session.edges()
         session.close()
         self.assertEqual(list(edges), [("k", "a", "b", Edge(1, 1, 1))])
-        for call in (session.edges, lambda: session.out_of("a"), lambda: len(session),
-                     lambda: "a" in session):
+        for call in (session.edges, lambda: session.successors("a"), lambda: session.edge_count,
+                     lambda: session.has_vertex("a"), lambda: session.has_edge("k", "a", "b"), session.vertices, session.kinds):
             self.refused(misteluk.SessionClosed, "version 1 is closed", call)
 
     def test_a_name_is_a_text(self):
@@ -105,22 +103,22 @@ class Calls(Case):
         store.load({"source": [1, 2], "target": [2, 3]}, by="set")
         session = store.open()
         self.assertEqual(session.path("1", "3"), ["1", "2", "3"])
-        for call in (lambda: session.levels(1), lambda: session.into(1), lambda: session.neighbors(1),
-                     lambda: session.path(1, "3"), lambda: session.path("3", 1), lambda: session.within(1, 2),
-                     lambda: session.within(1, 2, directed=False), lambda: session.edge("link", "2", 1),
-                     lambda: session.edges([("link", 1, "2")]), lambda: session.degrees(1),
-                     lambda: session.into("2", kind=1), lambda: list(session.edges(kind=1)),
+        for call in (lambda: session.levels(1), lambda: session.predecessors(1), lambda: session.neighbors(1),
+                     lambda: session.path(1, "3"), lambda: session.path("3", 1), lambda: session.neighborhood(1, 2),
+                     lambda: session.neighborhood(1, 2, directed=False), lambda: session.edge("link", "2", 1),
+                     lambda: session.get_edges([("link", 1, "2")]), lambda: session.degrees(1),
+                     lambda: session.predecessors("2", kind=1), lambda: list(session.edges(kind=1)),
                      lambda: misteluk.view(session, 1)):
             self.refused(TypeError, "a kind and a name are texts, and not 1", call)
 
     def test_units(self):
-        store = Store(weight_scale=100, times="iso")
+        store = Store(units=Units(weight_scale=100, times="iso"))
         self.addCleanup(store.close)
         store.add("k", "a", "b", "0.10", "2024-03-04T12:00:00")
         store.add("l", "a", "b", "2.05", "2024-03-05")
         store.commit()
         session = store.open()
-        self.assertEqual(str(session.out_of("a")["b"].weight), "2.15")
+        self.assertEqual(str(session.successors("a")["b"].weight), "2.15")
         self.assertEqual(list(map(str, session.weights_in(until="2024-03-04").values())), ["0.00", "0.10"])
         self.assertEqual(session.path("a", "b", since="2024-03-06"), None)
         session.to_csv(self.room / "edges.csv")
@@ -160,10 +158,10 @@ class Calls(Case):
 
     @unittest.skipUnless(pandas, "pandas is not there")
     def test_a_frame(self):
-        frame = self.store("insert k a b 3 1", "add k a b 4 5").open().edges_frame()
+        frame = self.store("insert k a b 3 1", "add k a b 4 5").open().edges().frame()
         self.assertEqual(list(frame.columns), ["kind", "source", "target", "weight", "first", "recent"])
         self.assertEqual(frame.values.tolist(), [["k", "a", "b", 7, 1, 5]])
-        self.assertEqual(len(self.store("insert k a b 1 1").open().edges_frame(since=2)), 0)
+        self.assertEqual(len(self.store("insert k a b 1 1").open().edges(since=2).frame()), 0)
 
     def wrong_lines(self, session, call, step=3):
         """At which of every so many lines an interrupt of the call makes it, or all edges, go wrong afterwards, three of them at
@@ -172,7 +170,7 @@ class Calls(Case):
         while len(wrong) < 3:
             try:
                 if not IS_SERVED:  # (it would have the answers already)
-                    session.held.kept.answers = Answers()
+                    session._held.kept.answers = Answers()
                 if not at_line(at, call):
                     break
                 if (call(), list(session.edges())) != (right, edges):
@@ -187,9 +185,11 @@ class Calls(Case):
         store = self.store("insert k a b 5 1", "insert k b c 7 1", "insert l a c 1 2")
         session = store.open()
         calls_ = {
-            "neighbors": lambda: session.neighbors("b"), "out_of": lambda: session.out_of("a"), "into": lambda: session.into("c"),
+            "neighbors": lambda: session.neighbors("b"), "successors": lambda: session.successors("a"),
+            "predecessors": lambda: session.predecessors("c"),
             "weights_in": session.weights_in, "path": lambda: session.path("a", "c", "k"), "edges": lambda: list(session.edges()),
-            "within": lambda: session.within("b", 2, directed=False), "in": lambda: "a" in session, "len": lambda: len(session)}
+            "neighborhood": lambda: session.neighborhood("b", 2, directed=False), "in": lambda: session.has_vertex("a"),
+            "edge_count": lambda: session.edge_count}
         for name, call in calls_.items():
             with self.subTest(name):
                 wrong, count = self.wrong_lines(session, call)

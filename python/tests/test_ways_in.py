@@ -8,7 +8,7 @@ from support import Case, optional
 from serving import ServeCase
 
 import misteluk
-from misteluk import Columns, Store
+from misteluk import Columns, Store, errors
 from misteluk.values import texts
 from misteluk.values.units import Units
 
@@ -17,7 +17,7 @@ WEIGHTED = Columns(weight="weight")
 
 class Posts(ServeCase):
     def test_weights(self):
-        store = self.serve(weight_scale=100).store
+        store = self.serve(units=Units(weight_scale=100)).store
         for at, (weight, wanted) in enumerate((("1,234.56", "1234.56"), (2.0, "2.00"), (12.34, "12.34"), ("2", "2.00"))):
             self.assertEqual(self.post("/v1/rows", {"rows": [["add", "k", "a", f"b{at}", weight, 0]]}).status, 200)
             with store.open() as session:
@@ -40,7 +40,7 @@ class Weights(Case):
 
     def weights(self, store: Store) -> list:
         with store.open() as session:
-            return session.edges_columns().weight.tolist()
+            return session.edges().weight.tolist()
 
     def ways(self, value):
         yield lambda store: (store.add("k", "a", "b", value), store.commit())
@@ -53,18 +53,18 @@ class Weights(Case):
         for value in twos:
             for scale, wanted in ((1, 2), (100, 200)):
                 for way in self.ways(value):
-                    store = self.store(weight_scale=scale)
+                    store = self.store(units=Units(weight_scale=scale))
                     way(store)
                     self.assertEqual(self.weights(store), [wanted], (type(value), value, scale))
         for value in parts:
             for way in self.ways(value):
-                store = self.store(weight_scale=100)
+                store = self.store(units=Units(weight_scale=100))
                 way(store)
                 self.assertEqual(self.weights(store), [1234], (type(value), value))
-                self.assertRaises((misteluk.BadWeight, misteluk.BadRows), way, self.store(weight_scale=1))
+                self.assertRaises((misteluk.errors.BadWeight, misteluk.BadRows), way, self.store(units=Units(weight_scale=1)))
         for wrong in (True, float("inf"), float("nan"), Decimal("sNaN"), Decimal("1E+999999"), Fraction(5, 2), "2.0", b"2", None):
             for way in self.ways(wrong):
-                self.assertRaises((misteluk.BadWeight, misteluk.BadRows, misteluk.FeedFault), way, self.store(weight_scale=1))
+                self.assertRaises((errors.BadWeight, misteluk.BadRows, errors.FeedFault), way, self.store(units=Units(1)))
 
     def test_texts_of_numbers(self):
         """A whole one below 1e19 is told without decimals, others as Python prints them."""
@@ -95,7 +95,7 @@ class Weights(Case):
         for form in ("float16", "float32", "float64", "Float32", "Float64", "object"):
             frame = pandas.DataFrame({**ends, "weight": pandas.array([12.34, -0.1], dtype=form)})
             for data in (frame, {it: frame[it] for it in frame}):
-                store = self.store(weight_scale=100)
+                store = self.store(units=Units(weight_scale=100))
                 store.load(data, **options)
                 self.assertEqual(sorted(self.weights(store)), [-10, 1234], form)
 
@@ -116,14 +116,14 @@ class Weights(Case):
 
     def test_thousands_in_each_way(self):
         for way in self.ways("1,234.56"):
-            store = self.store(weight_scale=100)
+            store = self.store(units=Units(weight_scale=100))
             way(store)
             self.assertEqual(self.weights(store), [123_456])
         for way in self.ways("1,234,567"):
             store = self.store()
             way(store)
             self.assertEqual(self.weights(store), [1_234_567])
-        options = {"by": "add", "columns": Columns(1, 2, weight=3), "delimiter": ";", "weight_scale": 100}
+        options = {"by": "add", "columns": Columns(1, 2, weight=3), "delimiter": ";", "units": Units(weight_scale=100)}
         for text, decimal in (("1,234.56", "."), ("1.234,56", ",")):
             store = self.store()
             store.load(self.file("rows.csv", f"a;b;{text}\nc;b;1\n"), decimal=decimal, **options)
@@ -147,9 +147,9 @@ class NoValues(Case):
     def refused(self, told: str, data, columns: Columns = Columns()) -> None:
         store = self.store()
         with warnings.catch_warnings():
-            warnings.simplefilter("ignore", misteluk.LeftOut)
-            self.assertRaisesRegex(misteluk.FeedFault, told, store.load, data, by="set", columns=columns)
-        self.assertEqual(store.stat().names, 0)
+            warnings.simplefilter("ignore", misteluk.errors.LeftOut)
+            self.assertRaisesRegex(misteluk.errors.FeedFault, told, store.load, data, by="set", columns=columns)
+        self.assertEqual(store.stat().vertices, 0)
 
     def test_whole_texts(self):
         for column in ("ann", b"ann", bytearray(b"ann"), {"ann"}, frozenset({"ann"}), {"ann": 1}, 7, None):
@@ -157,7 +157,7 @@ class NoValues(Case):
             self.refused(told, {"source": column, "target": ["b"]})
         store = self.store()
         store.load({"source": ("ann",), "target": iter(["bob"])}, by="set")
-        self.assertEqual(list(store.open().out_of("ann", "link")), ["bob"])
+        self.assertEqual(list(store.open().successors("ann", "link")), ["bob"])
 
     def test_bytes(self):
         told = r": b'ab': bytes are no text: decode them"

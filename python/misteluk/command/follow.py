@@ -89,8 +89,8 @@ class Teller:
                 sys.stdout.flush()
 
     def tell(self, step: Followed) -> None:
-        told = {**step.commit._asdict(), "rows": step.rows, "bad": step.bad, "line": step.line, "newest": step.newest,
-                **({} if step.last_bad is None else {"last_bad": step.last_bad._asdict()}),
+        told = {**vars(step.commit), "rows": step.rows, "bad": step.bad, "line": step.line, "newest": step.newest,
+                **({} if step.last_bad is None else {"last_bad": vars(step.last_bad)}),
                 **({} if step.behind is None else {"behind": step.behind})}
         self.write(told) if self.words.json else print(step)
         if not self.words.ask:

@@ -28,6 +28,7 @@ from ..page.view import view
 from ..saving import is_saved, size_of
 from ..session import Session
 from ..store import Store
+from ..values.units import Units
 
 
 # What a run of a script takes.
@@ -36,14 +37,14 @@ OF_RUN: Dict[str, Any] = {"limits": OF_SCRIPT, "most_blocks": records.MOST_BLOCK
 
 def form_of_feed(words: argparse.Namespace) -> Dict[str, Any]:
     """What is said of the feed."""
-    return {"by": words.by, "weight_scale": words.weight_scale, "times": words.times, "names": words.names,
+    return {"by": words.by, "units": Units(words.weight_scale, words.times, rounding=words.rounding), "names": words.names,
             "format": words.format, "columns": columns_of(words), "delimiter": words.delimiter, "header": words.header,
             "encoding": words.encoding, "decimal": words.decimal, "dates": words.dates, "third": words.third}
 
 
 def read(words: argparse.Namespace) -> Survey:
     rejects = words.rejects if "rejects" in words else None
-    found = survey(words.file, batch=words.batch, rounding=words.rounding, rejects=rejects, **form_of_feed(words))
+    found = survey(words.file, batch=words.batch, rejects=rejects, **form_of_feed(words))
     check(found, skip_bad=words.skip_bad, **(OF_RUN if "script" in words and words.script else {}))
     return found
 
@@ -75,7 +76,7 @@ def run_restore(words: argparse.Namespace) -> int:
     must_be_place(words.edges)
     with Store.restore(words.file, blocks=words.blocks) as store:
         stat = store.stat()
-        print(f"{words.file}: {size_of(stat.names, stat.edges)} restored in {stat.used} of {store.blocks} blocks", flush=True)
+        print(f"{words.file}: {size_of(stat.vertices, stat.edges)} restored in {stat.used} of {store.blocks} blocks", flush=True)
         do_then(words, store)
     return 0
 
@@ -86,7 +87,7 @@ def run_at(words: argparse.Namespace) -> int:
     must_be_place(words.edges)
     with Store.at(words.file, version=words.version, time=words.time) as store:
         stat = store.stat()
-        print(f"{words.file}: {size_of(stat.names, stat.edges)} as of version {stat.version}", flush=True)
+        print(f"{words.file}: {size_of(stat.vertices, stat.edges)} as of version {stat.version}", flush=True)
         do_then(words, store)
     return 0
 
@@ -136,7 +137,7 @@ def answer(words: argparse.Namespace, session: Session[Any, Any]) -> Iterator[st
 
 
 def run_follow(words: argparse.Namespace) -> int:
-    with Store(blocks=words.blocks, endless=True, rounding=words.rounding) as store:
+    with Store(blocks=words.blocks, endless=True) as store:
         return telling.follow(words, store, form_of_feed(words))
 
 

@@ -14,6 +14,8 @@ NAMES = {"degrees": 0, "weights_in": 0, "components": 0, "cores": 0, "edges": 0,
          "neighbors": 1, "within": 2, "path": 2, "edge": 3}
 FORMS = {0: "[KIND]", 1: "NAME [KIND]", 2: "SOURCE TARGET [KIND]", 3: "KIND SOURCE TARGET"}
 OF_WITHIN = "NAME HOPS [KIND]"
+# The calls of a session for the edges of a vertex.
+CALLS = {"into": "predecessors", "out_of": "successors"}
 # The value of a table of one; the others have several, and are sorted by one of these.
 VALUES = {"cores": "core", "weights_in": "weight_in"}
 
@@ -62,8 +64,8 @@ def _window(it: Question, window: Dict[str, Any]) -> Dict[str, Any]:
 def _table(it: Question, session: Session[Any, Any], top: int, column: str, window: Dict[str, Any]) -> Dict[str, Any]:
     table: Any = getattr(session, it.what)(**_window(it, window))
     value = VALUES.get(it.what)
-    most = table.most(top, None if value else column)
-    rows = [{"name": name, **({value: found} if value else found._asdict())} for name, found in most]
+    most = table.top(top, None if value else column)
+    rows = [{"name": name, **({value: found} if value else vars(found))} for name, found in most]
     told: Dict[str, Any] = {"greatest": max(table.values(), default=0)} if value else {"by": column}
     return {"names": len(table), **told, "most": rows}
 
@@ -86,7 +88,7 @@ def _levels(it: Question, session: Session[Any, Any], _: int, __: str, window: D
 
 
 def _beside(it: Question, session: Session[Any, Any], top: int, _: str, window: Dict[str, Any]) -> Dict[str, Any]:
-    edges: Dict[str, Edge[Any, Any]] = getattr(session, it.what)(it.names[0], **_window(it, window))
+    edges: Dict[str, Edge[Any, Any]] = getattr(session, CALLS[it.what])(it.names[0], **_window(it, window))
     most = sorted(edges.items(), key=_weight, reverse=True)[:top]
     return {"edges": len(edges), "most": [{"name": name, **edge._asdict()} for name, edge in most]}
 
@@ -96,7 +98,7 @@ def _weight(row: Tuple[str, Edge[Any, Any]]) -> Any:
 
 
 def _weight_either_way(row: Tuple[str, Neighbor[Any, Any]]) -> Any:
-    return sum(edge.weight for edge in row[1] if edge)
+    return sum(edge.weight for edge in (row[1].out, row[1].into) if edge)
 
 
 def _weight_of_edge(row: Tuple[str, str, str, Edge[Any, Any]]) -> Any:
@@ -119,12 +121,12 @@ def _neighbors(it: Question, session: Session[Any, Any], top: int, _: str, windo
     found = session.neighbors(it.names[0], **_window(it, window))
     most = sorted(found.items(), key=_weight_either_way, reverse=True)[:top]
     return {"neighbors": len(found), "most": [{"name": name, **{way: None if edge is None else edge._asdict() for way, edge in
-                                                                 both._asdict().items()}} for name, both in most]}
+                                                                 vars(both).items()}} for name, both in most]}
 
 
 def _within(it: Question, session: Session[Any, Any], top: int, _: str, window: Dict[str, Any]) -> Dict[str, Any]:
     """The vertices that are reached, the nearest first."""
-    found = session.within(it.names[0], int(it.names[1]), **_window(it, window))
+    found = session.neighborhood(it.names[0], int(it.names[1]), **_window(it, window))
     nearest = sorted(found.items(), key=lambda row: row[1])[:top]
     return {"reached": len(found), "most": [{"name": name, "level": level} for name, level in nearest]}
 

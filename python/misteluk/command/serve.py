@@ -25,6 +25,7 @@ from ..serve.people import ROLES, People, people_of
 from ..serve.replica import Replica
 from ..serve.server import USUAL, Server
 from ..store import Store
+from ..values.units import Units
 from ..values import records
 
 # How long one thread of the server may run before another has its turn, in seconds: a feed at full speed else has most of them.
@@ -110,7 +111,7 @@ def run(words: argparse.Namespace, how: Dict[str, Any], limits: ServerLimits, pe
         store, began = store_of(words, keeper) if replica is None else (replica.store, f"as a replica of {words.replica_of}")
         ends.enter_context(store)
         if replica is None:
-            store.engine.fit(0, 0, ROOM)
+            store._engine.fit(0, 0, ROOM)
         raise_descriptors()
         server = Server(store, words.listen, people=people, limits=limits, keeper=keeper, began=began,
                         manager=Manager(os.environ), replica=replica)
@@ -147,14 +148,15 @@ def ended(server: Server, keeper: Optional[Keeper]) -> int:
 
 def store_of(words: argparse.Namespace, keeper: Optional[Keeper]) -> Tuple[Store[Any, Any], str]:
     """The store that is served, and what it begins with."""
-    options = {"blocks": words.blocks, "seats": records.MOST_SEATS, "endless": True,
-               "weight_scale": words.weight_scale, "times": "iso" if words.dates else words.times, "rounding": words.rounding}
+    options: Dict[str, Any] = {
+        "blocks": words.blocks, "seats": records.MOST_SEATS, "endless": True,
+        "units": Units(words.weight_scale, "iso" if words.dates else words.times, rounding=words.rounding)}
     if words.path is not None:
         opened = Store(words.path, sync=words.sync or "full", history=words.history, **options)
-        version, base, batches, _ = opened.file.recovered
-        log.state("recovered", f"{words.path} has version {version}: {batches} batches behind the base of version {base}",
-                  version=version, base=base, batches=batches)
-        return opened, f"with version {version} of its file"
+        found = opened.file.recovered
+        said = f"{words.path} has version {found.version}: {found.batches} batches behind the base of version {found.base}"
+        log.state("recovered", said, version=found.version, base=found.base, batches=found.batches)
+        return opened, f"with version {found.version} of its file"
     store = None if keeper is None else keeper.restored(**options)
     if store is None or keeper is None:
         return Store(**options), "without an edge" if words.file is None else "with its feed"
@@ -177,7 +179,7 @@ def feeds_of(store: Store[Any, Any], words: argparse.Namespace, how: Dict[str, A
             "rejects": words.rejects}
     is_log = words.path is not None and words.file != STANDARD_INPUT and os.path.isfile(words.file)
     while True:
-        rest = FeedMark.of(words.file, os.stat(words.file)).rest(store.engine.feeds) if is_log else None
+        rest = FeedMark.of(words.file, os.stat(words.file)).rest(store._engine.feeds) if is_log else None
         if rest is not None:
             log.state("rotated", f"{words.file} is another file now: the rest of the one before goes in first, from {rest}")
         found = store.follow(rest or words.file, progress=False, until_end=rest is not None, **pace, **how)

@@ -16,7 +16,7 @@ from .guard import Guard, Notes, Owned
 from .interface import Code, Library
 from .protocol import WHOLE, Arrays, Denied, Ends, Marks, Scope
 from ..errors import NoSeat, SessionClosed
-from ..values.answers import Rebased
+from ..values.answers import Compacted
 from ..values.limits import Limits
 from ..values.records import MOST_NAME
 
@@ -42,7 +42,7 @@ class Opening(NamedTuple):
     flying: Optional[LibraryFlight] = None
     begins_anew: bool = False
     # The last rebase: its version, what it did, and the versions that it closes.
-    rebased: "Optional[Tuple[weakref.ref[LibraryVersion], Rebased, List[weakref.ref[LibraryVersion]]]]" = None
+    rebased: "Optional[Tuple[weakref.ref[LibraryVersion], Compacted, List[weakref.ref[LibraryVersion]]]]" = None
 
 
 class Holder(Protocol):

@@ -25,7 +25,7 @@ from .interface import Code
 from .operations import REMOVE, Operations
 from .protocol import LIBRARY, NO_FEEDS, Denied
 from ..errors import NoSeat, SessionClosed, StoreError
-from ..values.answers import Collected, Commit, Rebased, Renewed, Stat
+from ..values.answers import Collected, Commit, Compacted, Stat
 from ..values import records
 from ..values.limits import MOST_BATCHES, MOST_BLOCKS, MOST_KINDS, MOST_WEIGHT, Limits, within
 
@@ -65,7 +65,8 @@ class LibraryEngine:
     def _new(self, version: int, blocks: int, shape: Limits) -> Opening:
         """An opening with an empty desk, of so many versions before."""
         desk = Owned(interface.Desk(), self.handles.desks)
-        limits = interface.Limits(sizeof(interface.Limits), *shape[:3], shape.weight or MOST_WEIGHT)
+        weight = shape.weight or MOST_WEIGHT
+        limits = interface.Limits(sizeof(interface.Limits), shape.vertices, shape.kinds, shape.batches, weight)
         check(self.library.desk_new_within(next(_NUMBERS), limits, blocks, desk.raw))
         return Opening(desk, Notes(), version, version, Known.nothing(), blocks, shape)
 
@@ -342,8 +343,8 @@ class LibraryEngine:
             version.end()
 
     @alone
-    def rebase(self, version: Any) -> Rebased:
-        opening = self._settle()
+    def rebase(self, version: Any) -> Compacted:
+        begun, opening = time.monotonic(), self._settle()
         if opening.rebased is None or opening.rebased[0]() is not version:  # (else an interrupt came before this was told)
             if not version.is_open:
                 raise SessionClosed(f"the session of version {version.number} is closed")
@@ -351,18 +352,19 @@ class LibraryEngine:
                 opening = self._begin_anew(opening)
             else:
                 opening = self._copy(content_of(version), 0, opening.blocks, opening.shape)
-            found = self._stat(opening)
-            rebased = weakref.ref(version), Rebased(0, found.names, found.edges, found.used), self._versions
+            stat = self._stat(opening)
+            done = Compacted(0, stat.vertices, stat.edges, stat.used, time.monotonic() - begun)
+            rebased = weakref.ref(version), done, self._versions
             self._opening = opening = opening._replace(before=0, number=0, rebased=rebased)
         assert opening.rebased
         self._close_versions(opening.rebased[2])
         return opening.rebased[1]
 
     @alone
-    def renew(self) -> Renewed:
+    def renew(self) -> Compacted:
         begun, opening = time.monotonic(), self._settle()
         stat = self._stat(self._begin_anew(opening))
-        return Renewed(stat.version, stat.names, stat.edges, time.monotonic() - begun)
+        return Compacted(stat.version, stat.vertices, stat.edges, stat.used, time.monotonic() - begun)
 
     # The end.
 

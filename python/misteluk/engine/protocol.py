@@ -16,7 +16,7 @@ from typing import Any, List, Mapping, NamedTuple, Optional, Protocol, Sequence,
 
 from .operations import Operations
 from ..values import records
-from ..values.answers import Collected, Commit, Rebased, Renewed, Stat
+from ..values.answers import Collected, Commit, Compacted, Stat
 from ..values.fields import numpy_for
 from ..values.limits import Limits
 
@@ -259,10 +259,10 @@ class Engine(Protocol):
     def hold(self, slot: Optional[int]) -> Held:
         """Holds the last version. Raises `NoSeat`, or `Denied`."""
 
-    def rebase(self, version: Held) -> Rebased:
+    def rebase(self, version: Held) -> Compacted:
         """Begins anew with what the version holds, and closes all versions."""
 
-    def renew(self) -> Renewed:
+    def renew(self) -> Compacted:
         """Begins anew with the last version's edges; versions are counted on, and those that are held stay."""
 
     def close(self) -> None:

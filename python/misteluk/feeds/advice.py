@@ -3,7 +3,7 @@ from __future__ import annotations
 
 import codecs
 import re
-from typing import Iterable, NamedTuple, Optional
+from typing import Any, Iterable, NamedTuple, Optional
 
 from ..values import records
 from ..errors import BadName, BadSlot, BadTime, BadWeight, Refused
@@ -26,7 +26,7 @@ class Reading(NamedTuple):
 
     encoding: Optional[str]
     decimal: Optional[str]
-    units: Units
+    units: Units[Any, Any]
     dates: Optional[str] = None
     is_headless: bool = False
 
@@ -38,7 +38,7 @@ def as_written(fault: records.Fault, decimal: str) -> records.Fault:
     return fault._replace(value=(fault.value or "").replace(".", ","))
 
 
-def _is_weight(text: str, units: Units) -> bool:
+def _is_weight(text: str, units: Units[Any, Any]) -> bool:
     try:
         return records.weight_reason(units.weight_to_program(text)) is None
     except ValueError:
@@ -58,11 +58,11 @@ def _scale_for(text: str) -> int:
     return next((it for it in scales if _is_weight(text, Units(it))), 0) if "." in text else 0
 
 
-def advice_for(fault: records.Fault, units: Units = PLAIN) -> Optional[str]:
+def advice_for(fault: records.Fault, units: Units[Any, Any] = PLAIN) -> Optional[str]:
     """What helps where a record has such a field; "" where nothing does, and `None` where its word's advice does."""
     value = fault.value or ""
     if fault.word == BadWeight.word:
-        return _by_scale(_scale_for(value) if units.weight_scale == 1 else 0)
+        return _by_scale(_scale_for(value) if units.scale == 1 else 0)
     if fault.word == BadTime.word:
         return None if not units.has_dates and _is_date(value) else ""
     if fault.word == BadSlot.word:
@@ -101,15 +101,15 @@ def _of_name(value: str, encoding: Optional[str]) -> str:
 def _of_weight(value: str, how: Reading, scale: int) -> str:
     number = pointed(value)
     value = number if how.decimal == "," and number is not None else value
-    if how.encoding is None and how.units.weight_scale != 1 and _A_FLOAT.fullmatch(value) and not _scale_for(value):
+    if how.encoding is None and how.units.scale != 1 and _A_FLOAT.fullmatch(value) and not _scale_for(value):
         return "Sums of floats have more digits than were added: round them before, as by frame.round(2)"
     if "," not in value or number is None:
-        return _by_scale(scale if how.units.weight_scale == 1 and _scale_for(value) else 0)
+        return _by_scale(scale if how.units.scale == 1 and _scale_for(value) else 0)
     if how.decimal != ".":
         return ""
     if _is_weight(number, how.units):
         return "Amounts as 12,50 are read by decimal=',' (--decimal ,)"
-    if how.units.weight_scale != 1 or not _scale_for(number):
+    if how.units.scale != 1 or not _scale_for(number):
         return ""
     return f"Amounts as 12,50 are read by decimal=',' and weight_scale={scale} (--decimal , --weight-scale {scale})"
 

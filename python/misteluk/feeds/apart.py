@@ -159,7 +159,7 @@ class Apart(Iterator[Applied]):
 
     def _applied(self, parcel: Parcel) -> Applied:
         """Applies a batch."""
-        head, ledger = parcel.head, self.store.ledger
+        head, ledger = parcel.head, self.store._ledger
         place = FeedPlace(*head["place"])
         kind_text, kind_ends, text, ends, codes, kinds, sources, targets, weights, times = parcel.columns
         for name, told in head["texts"].items():

@@ -137,7 +137,7 @@ class Picked:
         warn_of_unread(feed, columns, names)
         self.feed = feed
         self.places = (kind, source, target, weight, time)
-        self.usual = (columns.usual_kind, "", "", "1", columns.usual_time)
+        self.usual = (columns.default_kind, "", "", "1", columns.default_time)
         self.least = max(it for it in self.places if it is not None) + 1
         self.form = TableForm(names, sign, max(len(names), self.least))
         self.is_first = True

@@ -5,6 +5,7 @@ import codecs
 import io
 import os
 from itertools import chain, islice
+from dataclasses import dataclass
 from typing import (IO, Any, Callable, Iterable, Iterator, List, NamedTuple, Optional, Sequence, Tuple, TypeVar, Union, cast,
                     overload)
 
@@ -117,27 +118,28 @@ class Feed(NamedTuple):
         return (Block(*zip(*rows)) for rows in parts_of(self.rows, ROWS_AT_ONCE))
 
 
-class Columns(NamedTuple):
-    """Which columns a table's edges are in: a name, or a number from 1. Where a column is `None`, `usual_kind`, a weight of 1
-    and a time of `usual_time` stand for it."""
+@dataclass(frozen=True)
+class Columns:
+    """Which columns a table's edges are in: a name, or a number from 1. Where a column is `None`, `default_kind`, a weight of 1
+    and a time of `default_time` stand for it."""
 
     source: Column = "source"
     target: Column = "target"
     kind: Optional[Column] = None
     weight: Optional[Column] = None
     time: Optional[Column] = None
-    usual_kind: str = USUAL_KIND
-    usual_time: str = "0"
+    default_kind: str = USUAL_KIND
+    default_time: str = "0"
 
     @property
     def wanted(self) -> Tuple[Optional[Column], ...]:
         """The columns themselves: of the source, the target, the kind, the weight and the time."""
-        return self[:5]
+        return self.source, self.target, self.kind, self.weight, self.time
 
     @property
     def are_unsaid(self) -> bool:
         """Whether no column was said."""
-        return self[:5] == Columns()[:5]
+        return self.wanted == Columns().wanted
 
 
 def parts_of(items: Iterable[T], size: int) -> Iterator[List[T]]:

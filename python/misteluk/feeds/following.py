@@ -16,7 +16,7 @@ from .calls import Calls
 from .feed import Block, Feed, Path, part_of, turned
 from .growing import DelimitedRows, Growing, Incoming, Opened, Rows, SnapRows
 from .surveys import Count, must_be_way
-from .opening import ReadAs, form_of, reads
+from .opening import ReadAs, form_of
 from ..engine.guard import noting
 from ..engine.operations import EXPIRY
 from .progress import Progress
@@ -50,7 +50,7 @@ class Following(Iterator[Followed]):
 
     def __init__(self, store: "Store[Any, Any]", incoming: Incoming, count: Count, recipe: Recipe,
                  progress: Optional[bool], rejects: Optional[Keeps] = None) -> None:
-        self.store, self.name, self._ledger = store, incoming.name, store.ledger
+        self.store, self.name, self._ledger = store, incoming.name, store._ledger
         self._incoming, self._source, self._count, self._pace = incoming, incoming.source, count, recipe.pace
         self.recipe, self.rejects = recipe, rejects
         # What is called where rows were skipped and none is pending, with which this would be told.
@@ -321,33 +321,15 @@ class Following(Iterator[Followed]):
         return f"<Following of {self.name}: {self._in} rows in, {len(self._lines)} pending>"
 
 
-@reads
 def follow(store: "Store[Any, Any]", feed: Union[Path, Opened], *, by: str, every: Span = 1.0, keep: Optional[Span] = None,
            ahead: Optional[Span] = None, batch: int = records.MOST_OPERATIONS, until_end: bool = False,
            skip_bad: bool = False, rejects: Optional[Path] = None, progress: Optional[bool] = None, **read_as: Any) -> Following:
-    """Follows a feed into a store: a file that grows, standard input (`-`), or what has a descriptor, as a pipe. Each step of
-    what this gives is a commit, with a collection.
-
-    A commit comes when a row has waited for `every` (seconds, or a text as "500ms"), or when its batch has `batch` operations.
-    With `keep` each commit expires the edges that weren't touched for so long: those with a recent time before the newest time of
-    the feed's rows minus `keep`. That is a length of time, as "14d", where times are dates, and else a whole number. A late row
-    sets its edge's time back. See `Store.expire` for the blocks. One row with a time far ahead would remove all that is older: a
-    date that is more than `ahead` of the clock here, as "1h", is a bad row. With `keep` that is "1d" if nothing is said. Numbers
-    are taken as they come.
-
-    A file is followed beyond its end, unless `until_end`; a pipe ends where its writers do. `Following.stop` ends the steps with
-    all in that was read. A row that can't be taken ends them too, by `BadRows` when all before it is in, unless `skip_bad`, or
-    `rejects`, a file to which such rows are appended (see `load`). So does a file that is cut short or written anew, by
-    `FeedFault`: its first bytes that were read, and the last ones, are looked at again with more of it. One that is replaced
-    isn't followed into the new one. Where a commit is refused or not answered the error says which rows aren't in; they are
-    pending still, and the next step goes on. Between steps the store may be asked, and other operations be committed.
-
-    The further options are those of `ReadAs`. Raises `ValueError` for options that there aren't, and for a file that is packed;
-    `Uncommitted` where operations are pending; `OSError` where there is no such file.
-    """
+    """Follows a feed into a store. See `Store.follow`. One row with a time far ahead would remove all that is older, and a late
+    row sets its edge's time back. Of a file its first bytes that were read, and the last ones, are looked at again with more of
+    it; one that is replaced isn't followed into the new one."""
     must_be_way(by, batch)
-    how = ReadAs(**read_as)
-    terms = store.ledger.terms_for(*how.units_said)
+    how = ReadAs.of(read_as)
+    terms = store._ledger.terms_for(how.units_given)
     kept = kept_time(keep, terms.units)
     pace = Pace(seconds_of(every), max(batch - (kept is not None), 1), kept, ahead_time(ahead, kept, terms.units),
                 skip_bad or rejects is not None, rejects is not None, how)
@@ -356,13 +338,13 @@ def follow(store: "Store[Any, Any]", feed: Union[Path, Opened], *, by: str, ever
         raise ValueError(f"format is 'delimited' or 'snap' where a feed is followed, and not {form!r}")
     if store.pending:
         raise Uncommitted(f"{store.pending} operations are pending: commit or discard them before a feed is followed",
-                          store.ledger.told_pending)
+                          store._ledger.told_pending)
     turned(Feed("", ()), names=how.names)
     place = feed if isinstance(feed, (str, os.PathLike)) or rejects is None else feed.fileno()
     kept_rows = None if rejects is None else Rejects(rejects, how.encoding, place)
     following = following_of(store, feed, Recipe(form, by, batch, until_end, pace), terms, progress, kept_rows)
     try:
-        following.resume(store.engine.feeds)
+        following.resume(store._engine.feeds)
     except FeedFault:
         following.close()
         raise
@@ -374,9 +356,9 @@ def following_of(store: "Store[Any, Any]", feed: Union[Path, Opened], recipe: Re
     """A feed that is followed into a store by a recipe. See `follow`."""
     how = recipe.pace.how
     source = Growing(feed, how.encoding, recipe.until_end, recipe.rotates)
-    rows: Rows = (SnapRows(source.name, how.columns.usual_kind, how.third) if recipe.form == "snap" else
+    rows: Rows = (SnapRows(source.name, how.columns.default_kind, how.third) if recipe.form == "snap" else
                   DelimitedRows(source.name, how.columns, how.delimiter, how.header))
-    store.ledger.take_terms(terms)
+    store._ledger.take_terms(terms)
     count = Count(source.name, recipe.by, recipe.batch, terms, how.decimal)
     count.ahead, count.bin = recipe.pace.ahead, Bin() if recipe.pace.has_rejects else None
     return Following(store, Incoming(source, rows, how.notation, how.names), count, recipe, progress, rejects)

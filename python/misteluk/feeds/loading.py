@@ -2,11 +2,12 @@
 from __future__ import annotations
 
 import time
-from typing import TYPE_CHECKING, Any, Iterator, List, NamedTuple, Optional, Tuple
+from dataclasses import dataclass
+from typing import TYPE_CHECKING, Any, Iterator, List, Optional, Tuple
 
 from .limits import check, check_room
 from .feed import Path
-from .opening import ReadAs, reads
+from .opening import ReadAs
 from .progress import Progress
 from .rejects import Rejected
 from .surveys import Part, Survey, survey
@@ -21,7 +22,8 @@ if TYPE_CHECKING:
     from ..store import Store
 
 
-class Loaded(NamedTuple):
+@dataclass(frozen=True, repr=False)
+class Loaded:
     """What a load did: the sum of its batches' receipts, what was counted before, how many records were sent, and how many
     seconds it took: in all, and without the reading and counting."""
 
@@ -57,40 +59,19 @@ class Loaded(NamedTuple):
 
     def _repr_html_(self) -> str:
         """What a notebook shows."""
-        done = {} if self.commit is None else self.commit._asdict()
+        done = {} if self.commit is None else vars(self.commit)
         return shown_as_html("Loaded", {"feed": self.survey.feed, "rows": self.survey.rows, "bad rows": self.survey.bad,
                                         "seconds": f"{self.seconds:.1f}", **done})
 
 
-@reads
 def load(store: "Store[Any, Any]", data: Any, *, by: str, batch: Optional[int] = None, collect: bool = True,
          skip_bad: bool = False, rejects: Optional[Path] = None, progress: Optional[bool] = None, **read_as: Any) -> Loaded:
-    """Loads a feed into a store: a file's path (`-` is standard input), a networkx graph, a pandas frame, columns by name, rows,
-    a `Feed`, or a `Survey` made before (in its own batches, where it was said how large they are).
-
-    `by` is "set" or "add": whether a second row of the same kind, source and target replaces the first one's weight or adds
-    to it. Rows are applied in batches of `batch`, 1 to 4,096, each a version, which a collection follows unless `collect` is
-    false. Without `batch` they are of 4,096 rows, and in this process of as many times 4,096 as there are free blocks for, at
-    most 65,536, which takes less time; where one is refused, what can be of its rows goes in in batches of 4,096.
-
-    Everything is read and checked first: `BadRows` names bad rows by line, field and reason (`skip_bad` passes them over, and
-    counts them), `OverLimit` says what is more than a store takes, with counts, and nothing was applied. Of a store that holds
-    edges or sessions already only a part of this is known beforehand: where it refuses a batch, `PoolEmpty` or another word
-    says which lines are not in, and all lines before them are.
-
-    With `rejects`, a file's path, bad rows are skipped too, and appended to it as they came, with two columns more, `line` and
-    `reason`. Of a delimited file it has the header, if there is one, the delimiter and the encoding: mended rows are loaded from
-    it by the same options. Rows of other feeds have the columns source, target, kind, weight and time there. A feed that is read
-    again adds its rows again.
-
-    `ValueError` is raised where the feed's units aren't the store's, and nothing is read. The further options are those of
-    `ReadAs`. `progress` shows or hides a bar; without it a terminal has one.
-    """
+    """Loads a feed into a store. See `Store.load`."""
     if isinstance(data, Survey) and data.by != by:
         raise ValueError(f"the survey was made to {data.by}, and the load is to {by}")
     if isinstance(data, Survey) and rejects is not None:
         raise ValueError("a survey's rows were read already: say rejects= where it is made")
-    terms = store.ledger.terms_for(*ReadAs(**read_as).units_said)
+    terms = store._ledger.terms_for(ReadAs.of(read_as).units_given)
     found = data if isinstance(data, Survey) else survey(data, by=by, batch=batch, progress=progress, terms=terms,
                                                              rejects=rejects, **read_as)
     skip_bad = skip_bad or rejects is not None
@@ -110,7 +91,7 @@ def load(store: "Store[Any, Any]", data: Any, *, by: str, batch: Optional[int] =
 
 def most_joined(store: "Store[Any, Any]") -> int:
     """Of how many batches of 4,096 one is made at most."""
-    return MOST_AT_ONCE // records.MOST_OPERATIONS if store.engine.name == LIBRARY else 1
+    return MOST_AT_ONCE // records.MOST_OPERATIONS if store._engine.name == LIBRARY else 1
 
 
 def load_in_steps(store: "Store[Any, Any]", found: Survey, *, collect: bool = True, skip_bad: bool = False) -> Iterator[Commit]:
@@ -120,15 +101,15 @@ def load_in_steps(store: "Store[Any, Any]", found: Survey, *, collect: bool = Tr
 
 def _steps(store: "Store[Any, Any]", found: Survey, collect: bool, skip_bad: bool, most: int) -> Iterator[Tuple[Part, Commit]]:
     """Applies a survey's batches, up to so many as one, and gives each with what it did."""
-    check(found, skip_bad=skip_bad, limits=store.engine.limits, most_blocks=store.engine.most_blocks)
-    store.ledger.settle()
+    check(found, skip_bad=skip_bad, limits=store._engine.limits, most_blocks=store._engine.most_blocks)
+    store._ledger.settle()
     if store.pending and not store.is_closed:  # (a closed store says that it is, as soon as it is asked for its blocks)
         text = f"{store.pending} operations are pending: commit or discard them before a load"
-        raise Uncommitted(text, store.ledger.told_pending)
+        raise Uncommitted(text, store._ledger.told_pending)
     check_room(store, found, store.stat().used)
-    store.ledger.must_agree(found.terms.units)
+    store._ledger.must_agree(found.terms.units)
     if not found.parts:
-        store.ledger.take_terms(found.terms)
+        store._ledger.take_terms(found.terms)
     at = 0
     while at < len(found.parts):
         count = max(min(most, store.stat().free // records.MOST_OPERATIONS), 1) if most > 1 else 1
@@ -148,7 +129,7 @@ def _apply(store: "Store[Any, Any]", found: Survey, part: Part, at: int, collect
     """Applies one batch of a feed, that of this number or one that begins with it; a refusal says which lines are not in."""
     try:
         batch = Operations(columns=part.columns, place=lambda it: Place(found.feed, part.lines[it]))
-        return store.ledger.apply(batch, collect, (found.terms, found.kinds) if at == 0 else None)
+        return store._ledger.apply(batch, collect, (found.terms, found.kinds) if at == 0 else None)
     except NoAnswer as fault:
         raise NoAnswer(f"{fault}; lines {part.lines[0]} to {part.lines[-1]} of {found.feed} were sent, all before them are in, "
                        "and none behind them was sent") from fault

@@ -3,6 +3,7 @@ from __future__ import annotations
 
 import reprlib
 import warnings
+from dataclasses import replace
 from itertools import chain
 from typing import AbstractSet, Any, Callable, Dict, Iterable, Iterator, List, Mapping, Sequence, Tuple
 
@@ -192,7 +193,7 @@ def _form_of_rows(first: Any, columns: Columns) -> Tuple[List[str], Picked]:
             raise FeedFault(f"rows:1: {len(first)} fields, where an edge has source, target, weight, time and kind: say which to "
                             "take by numbers from 1, Columns(1, 2, ..)")
         weight, time, kind = (it if it <= len(first) else None for it in (3, 4, 5))
-        columns = columns._replace(source=1, target=2, kind=kind, weight=weight, time=time)
+        columns = replace(columns, source=1, target=2, kind=kind, weight=weight, time=time)
     return [], Picked("rows", columns, [])
 
 

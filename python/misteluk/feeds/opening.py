@@ -3,33 +3,36 @@ from __future__ import annotations
 
 import os
 from collections.abc import Iterable, Mapping
-from inspect import Parameter, signature
-from typing import Any, Callable, NamedTuple, Optional, Tuple, TypeVar
+from dataclasses import dataclass, fields, replace
+from inspect import Parameter, cleandoc, signature
+from typing import Any, Callable, Optional, Tuple, TypeVar
 
 from .advice import Reading
 from .feed import STANDARD_INPUT, Columns, Feed, Path, matrix_market, open_text, snap
 from .notations import Notation
-from ..values.units import Units
+from ..values.units import ISO, PLAIN, Units
 
 F = TypeVar("F", bound=Callable[..., Any])
 FORMATS = ("delimited", "snap", "matrix")
 
 
-class ReadAs(NamedTuple):
-    """How a feed is read: the options of `load`, `follow`, `survey` and `open_feed`, as far as each has a use for them.
+@dataclass(frozen=True)
+class ReadAs:
+    """How a feed is read:
 
     `format` is "delimited", "snap" or "matrix"; without it a file's name says: .mtx a matrix, .csv and .tsv and others delimited,
-    and .txt an edge list where it begins with #. `columns`, `delimiter`, `header` are of delimited files (see `delimited`),
-    `columns` of frames and rows too, `third` of edge lists (see `snap`), `both_ways` of undirected graphs (see `from_networkx`).
+    and .txt an edge list where it begins with #. `columns` are those of a delimited file, of a frame or of rows, or a graph's
+    attributes of edges (see `misteluk.Columns`). `delimiter` is else the comma, tab, semicolon or bar of which a file's first
+    line has most; a file has a `header` if columns are named, unless that is given. `third` says what an edge list's third field
+    is, "weight" or "time". With `both_ways=False` an edge of an undirected graph is one in one direction alone.
 
     `encoding` is a file's, by Python's name. `decimal` is "." where a file has amounts as 12.50 or 1,234.50; then 1,234 alone is
     a bad amount, since it may be either. It is "," for 12,50 or 1.234,50, and then 1.234 is the bad one. No form is guessed.
     `dates` is "dd.mm.yyyy", "dd/mm/yyyy" or "mm/dd/yyyy" where times are such dates, which a time of day may follow; it is
     "seconds", "milliseconds" or "microseconds" where they are numbers of them since 1970. They are read as with `times="iso"`.
 
-    `names="escape"` writes names with escapes (see `turned`). `weight_scale` and `times` say the units of a store that has none
-    yet (see `Store`), and must be those of one that has; without them the feed is in the store's. `rounding="half-even"` rounds
-    this feed's weights (see `Store`, which may round all that it takes).
+    `names="escape"` writes names with escapes, %20 for a space. `units` (see `misteluk.Units`) are those of a store that has none
+    yet, and must be those of one that has; without them the feed is in the store's. Their `rounding` is for this feed alone.
     """
 
     columns: Columns = Columns()
@@ -42,9 +45,16 @@ class ReadAs(NamedTuple):
     decimal: str = "."
     dates: Optional[str] = None
     names: str = "plain"
-    weight_scale: Optional[int] = None
-    times: Optional[str] = None
-    rounding: Optional[str] = None
+    units: Optional[Units[Any, Any]] = None
+
+    @classmethod
+    def of(cls, given: Mapping[str, Any]) -> "ReadAs":
+        """These options. Raises `TypeError`, which lists all, where there is no such option."""
+        names = [it.name for it in fields(cls)]
+        for it in given:
+            if it not in names:
+                raise TypeError(f"there is no option {it!r}: how a feed is read is said by {', '.join(names)}")
+        return cls(**given)
 
     @property
     def notation(self) -> Notation:
@@ -52,11 +62,12 @@ class ReadAs(NamedTuple):
         return Notation(self.decimal, self.dates).checked()
 
     @property
-    def units_said(self) -> Tuple[Optional[int], Optional[str], Optional[str]]:
-        """The weight scale, times and rounding that are said."""
-        return self.weight_scale, "iso" if self.dates else self.times, self.rounding
+    def units_given(self) -> Units[Any, Any]:
+        """The units that are given."""
+        units = self.units or PLAIN
+        return replace(units, times=ISO) if self.dates else units
 
-    def reading(self, data: Any, units: Units) -> Reading:
+    def reading(self, data: Any, units: Units[Any, Any]) -> Reading:
         """What advice on bad rows goes by. Data that is no file has no encoding."""
         is_file = isinstance(data, (str, os.PathLike))
         is_headless = is_file and self.header is None and not any(isinstance(it, str) for it in self.columns.wanted)
@@ -80,19 +91,19 @@ class ReadAs(NamedTuple):
 
     def _of_file(self, path: Path, form: str) -> Feed:
         if form == "snap":
-            return snap(path, kind=self.columns.usual_kind, third=self.third, encoding=self.encoding)
+            return snap(path, kind=self.columns.default_kind, third=self.third, encoding=self.encoding)
         if form == "matrix":
-            return matrix_market(path, kind=self.columns.usual_kind, encoding=self.encoding)
+            return matrix_market(path, kind=self.columns.default_kind, encoding=self.encoding)
         from .delimited import delimited
         return delimited(path, self.columns, delimiter=self.delimiter, header=self.header, encoding=self.encoding)
 
 
 def reads(call: F) -> F:
-    """A call whose further options are those of `ReadAs`, and are told with its own: a prompt completes them."""
+    """A call whose further options are those of `ReadAs`, which its help and signature have too: a prompt completes them."""
     own = signature(call)
     named = [it for it in own.parameters.values() if it.kind != Parameter.VAR_KEYWORD]
-    options = [Parameter(it, Parameter.KEYWORD_ONLY, default=ReadAs._field_defaults[it], annotation=ReadAs.__annotations__[it])
-               for it in ReadAs._fields]
+    options = [Parameter(it.name, Parameter.KEYWORD_ONLY, default=it.default, annotation=it.type) for it in fields(ReadAs)]
+    call.__doc__ = f"{cleandoc(call.__doc__ or '')}\n\n{cleandoc(ReadAs.__doc__ or '')}"
     call.__signature__ = own.replace(parameters=[*named, *options])  # type: ignore[attr-defined]
     return call
 
@@ -100,13 +111,14 @@ def reads(call: F) -> F:
 @reads
 def open_feed(data: Any, **read_as: Any) -> Feed:
     """The feed of what is given. See `ReadAs`, whose options it takes."""
-    return ReadAs(**read_as).feed(data)
+    return ReadAs.of(read_as).feed(data)
 
 
 def _of_object(data: Any, columns: Columns, both_ways: bool) -> Feed:
     from .objects import from_columns, from_networkx, from_pandas, from_rows
     if hasattr(data, "edges") and hasattr(data, "is_directed"):
-        return from_networkx(data, kind=columns.usual_kind, both_ways=both_ways)
+        return from_networkx(data, kind=columns.default_kind, both_ways=both_ways, weight=str(columns.weight or "weight"),
+                             time=str(columns.time or "time"), kind_of=str(columns.kind or "kind"))
     if hasattr(data, "itertuples"):
         return from_pandas(data, columns)
     if isinstance(data, Mapping):

@@ -32,7 +32,7 @@ class Wanted(NamedTuple):
     name: str
     descriptor: int
     recipe: Recipe
-    units: Units
+    units: Units[Any, Any]
     place: FeedPlace
 
     def fileno(self) -> int:
@@ -43,7 +43,7 @@ class Outbox:
     """What stands for the store here, and for its ledger: what is committed goes out."""
 
     def __init__(self, descriptor: int, names: NameTable) -> None:
-        self.ledger = self
+        self._ledger = self
         self.kinds: Dict[str, None] = {}
         self.rows: List[Row] = []
         self.telling: Tuple[Commit, ...] = (NOTHING,)
@@ -77,7 +77,8 @@ class Outbox:
         lines = Lines(skipped[0].first, skipped[0].header, "".join(it.rows for it in skipped)) if skipped else None
         place, first = following.place, self.first
         self.first = place.done + 1
-        return {"place": place, "first": first, "last_bad": following.last_bad, "skipped": lines}
+        last_bad = None if following.last_bad is None else list(vars(following.last_bad).values())
+        return {"place": place, "first": first, "last_bad": last_bad, "skipped": lines}
 
     def skip(self, following: Following) -> None:
         """Sends that rows were skipped, where no batch is there to be sent."""

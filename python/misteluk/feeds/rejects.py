@@ -8,6 +8,7 @@ import io
 import os
 import stat
 from contextlib import suppress
+from dataclasses import dataclass
 from typing import Any, List, NamedTuple, Optional, Sequence
 
 from .feed import STANDARD_INPUT, Path, TableForm, codec_of
@@ -17,7 +18,8 @@ from ..errors import FeedFault
 MOST_TEXT = 200
 
 
-class Rejected(NamedTuple):
+@dataclass(frozen=True)
+class Rejected:
     """A row that was skipped: its line, why it can't be taken, and its text, cut where it is long."""
 
     line: int

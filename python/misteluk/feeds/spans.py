@@ -4,7 +4,7 @@ from __future__ import annotations
 import re
 from datetime import timedelta
 from fractions import Fraction
-from typing import Optional, Union
+from typing import Any, Optional, Union
 
 from ..values import records
 from ..values.limits import within
@@ -45,7 +45,7 @@ def seconds_of(every: Span) -> float:
     return seconds
 
 
-def ahead_time(ahead: Optional[Span], kept: Optional[int], units: Units) -> Optional[int]:
+def ahead_time(ahead: Optional[Span], kept: Optional[int], units: Units[Any, Any]) -> Optional[int]:
     """How far ahead of the clock a row may be, in microseconds: a day where edges are kept for a time, if nothing is said."""
     if ahead is None:
         return USUAL_AHEAD if kept is not None and units.has_dates else None
@@ -62,7 +62,7 @@ def shown_length(length: int) -> str:
     return f"{length / 1e6:g} seconds"
 
 
-def kept_time(keep: Optional[Span], units: Units, what: str = "keep") -> Optional[int]:
+def kept_time(keep: Optional[Span], units: Units[Any, Any], what: str = "keep") -> Optional[int]:
     """How long an edge is kept, in the program's times: microseconds where times are dates, and else a whole number of what the
     feed counts in."""
     if keep is None:

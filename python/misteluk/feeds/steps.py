@@ -3,6 +3,7 @@ from __future__ import annotations
 
 import json
 import os
+from dataclasses import dataclass
 from typing import Any, List, Mapping, NamedTuple, Optional, Tuple
 
 from .opening import ReadAs
@@ -11,7 +12,8 @@ from ..errors import FeedFault
 from ..values.answers import Commit
 
 
-class Followed(NamedTuple):
+@dataclass(frozen=True)
+class Followed:
     """What a commit of a feed did, and how far it is: the rows that are in, the bad ones that were skipped, the last line whose
     row is in, the newest time of all rows, in the store's units, the last bad row, and how many bytes of a file aren't read."""
 

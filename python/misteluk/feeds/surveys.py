@@ -113,7 +113,7 @@ class Survey:
     by: str
     parts: List[Part]
     rows: int
-    names: int
+    vertices: int
     kinds: List[str]
     bad: int
     fault_counts: Dict[str, int]
@@ -154,7 +154,7 @@ class Survey:
     def room(self) -> int:
         """How many blocks are enough, as is seen before edges are counted."""
         count = self.rows - self.bad
-        return min(count, self.names * len(self.kinds)) + count // records.BLOCK_EDGES + self.largest
+        return min(count, self.vertices * len(self.kinds)) + count // records.BLOCK_EDGES + self.largest
 
     @property
     def largest(self) -> int:
@@ -177,11 +177,11 @@ class Survey:
 
     def counts(self) -> Dict[str, int]:
         """All that was counted, by its name."""
-        return {"rows": self.rows, "names": self.names, "kinds": len(self.kinds), "edges": self.edges, "blocks": self.blocks,
-                "needed": self.needed, "records": self.records(), "bad": self.bad}
+        return {"rows": self.rows, "vertices": self.vertices, "kinds": len(self.kinds), "edges": self.edges,
+                "blocks": self.blocks, "needed": self.needed, "records": self.records(), "bad": self.bad}
 
     def __str__(self) -> str:
-        counts = ((self.rows, "row"), (self.names, "name"), (len(self.kinds), "kind"), (self.edges, "edge"),
+        counts = ((self.rows, "row"), (self.vertices, "name"), (len(self.kinds), "kind"), (self.edges, "edge"),
                   (self.blocks, "block"))
         *told, blocks = (f"{count} {word}{'s' * (count != 1)}" for count, word in counts)
         # (of several batches it isn't known yet how many are made: a load in this process may make larger ones)
@@ -378,11 +378,10 @@ def survey(data: Any, *, by: str, batch: Optional[int] = None, progress: Optiona
     `batch`, `rejects`: see `load`.
     The further options are those of `ReadAs`; a store that is loaded with it takes its units. `terms` are those of a store that
     is to take it, and stand for its units."""
-    how, size = ReadAs(**read_as), records.MOST_OPERATIONS if batch is None else batch
+    how, size = ReadAs.of(read_as), records.MOST_OPERATIONS if batch is None else batch
     must_be_way(by, size)
     feed = turned(how.feed(data), names=how.names)
-    scale, times, rounding = how.units_said
-    terms = terms or Terms(units=Units(1 if scale is None else scale, times or "number", rounding=rounding))
+    terms = terms or Terms(units=how.units_given)
     counter, told = Count(feed.name, by, size, terms, how.decimal), Progress(f"reading {feed.name}", None, progress)
     kept = None if rejects is None else Rejects(rejects, how.encoding, data)
     counter.bin = None if kept is None else Bin()

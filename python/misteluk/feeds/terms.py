@@ -1,7 +1,7 @@
 """What a store's user says and is told, and what the program has for it: names by a table, weights and times by units."""
 from __future__ import annotations
 
-from typing import Callable, Collection, Dict, List, Optional, Sequence, Set, Tuple
+from typing import Any, Callable, Collection, Dict, List, Optional, Sequence, Set, Tuple
 
 from .advice import advice_for
 from .feed import Block
@@ -26,9 +26,10 @@ class Terms:
     """A table of names and units, and what records say in them. A record's fields are the user's texts on one side, and the
     program's on the other."""
 
-    def __init__(self, names: Optional[NameTable] = None, units: Units = PLAIN, right: Optional[Set[str]] = None) -> None:
+    def __init__(self, names: Optional[NameTable] = None, units: Units[Any, Any] = PLAIN,
+                 right: Optional[Set[str]] = None) -> None:
         self.names = NameTable() if names is None else names
-        self.units = units.checked()
+        self.units = units
         # Names, and kinds, that are the engine's as they stand, as far as they were looked at.
         self.right: Set[str] = set() if right is None else right
 

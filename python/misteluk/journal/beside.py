@@ -8,7 +8,7 @@ from contextlib import suppress
 from datetime import timedelta
 from typing import Callable, Optional
 
-from .compaction import Compacted, Ended, History
+from .compaction import FileCompacted, Ended, History
 from ..errors import JournalError
 
 LOG = logging.getLogger("misteluk.journal")
@@ -22,13 +22,13 @@ class Beside:
     """Compacts a store's file in a thread of its own, as often as that is due: `grew` is called behind each batch. `last` is what
     was done last, and `fault` why the last one wasn't, which is tried again when the next one is due."""
 
-    def __init__(self, compact: Callable[[History], Compacted], edges: Callable[[], int], history: History, since: float,
+    def __init__(self, compact: Callable[[History], FileCompacted], edges: Callable[[], int], history: History, since: float,
                  behind: int) -> None:
         self._compact, self._edges, self.history = compact, edges, history
         # How many operations came behind the last base, and when that was written.
         self._behind, self._since = behind, since
         self._thread: Optional[threading.Thread] = None
-        self.last: Optional[Compacted] = None
+        self.last: Optional[FileCompacted] = None
         self.fault: Optional[JournalError] = None
 
     def grew(self, operations: int) -> None:

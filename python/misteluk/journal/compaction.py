@@ -3,7 +3,8 @@ from __future__ import annotations
 
 import time
 from datetime import timedelta
-from typing import Iterator, List, NamedTuple, Optional, Tuple, Union
+from dataclasses import dataclass
+from typing import Iterator, List, Optional, Tuple, Union
 
 from .bases import PART, Base, digest_of
 from .journal import Journal
@@ -24,7 +25,8 @@ class Ended(StoreError):
     """The store was closed meanwhile: what was written of a base is let go by the next opening."""
 
 
-class Compacted(NamedTuple):
+@dataclass(frozen=True)
+class FileCompacted:
     """What a compaction did: the version that it made a base of, how many bytes that has, the oldest version that can be had
     now, and how many batches left the file."""
 

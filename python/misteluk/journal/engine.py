@@ -13,7 +13,7 @@ from typing import Any, Callable, Dict, List, Mapping, Optional, Sequence, Tuple
 
 from .bases import Base, columns_of
 from .beside import Beside
-from .compaction import Compacted, History, drop_old, first_kept, write_base
+from .compaction import FileCompacted, History, drop_old, first_kept, write_base
 from .journal import Entry, Journal
 from .passing import Passing
 from .recovery import State
@@ -25,7 +25,7 @@ from ..engine.held import LibraryVersion
 from ..engine.operations import Operations
 from ..engine.protocol import Held
 from ..errors import ReadOnly, StoreError
-from ..values.answers import Collected, Commit, Rebased, Renewed
+from ..values.answers import Collected, Commit, Compacted
 from ..feeds.terms import Terms
 
 
@@ -148,12 +148,13 @@ class Journaled(Passing):
         return self._inner.collect()
 
     @alone
-    def renew(self) -> Renewed:
+    def renew(self) -> Compacted:
         self._settle()
         return self._inner.renew()
 
     @alone
-    def rebase(self, version: Any) -> Rebased:
+    def rebase(self, version: Any) -> Compacted:
+        begun = time.monotonic()
         self._settle()
         number = self.inner.stat().version
         if version.number != number:
@@ -162,9 +163,9 @@ class Journaled(Passing):
         self.inner.renew()  # (of the last version it is the same, and numbers go on)
         self.inner.close_versions()
         stat = self.inner.stat()
-        return Rebased(stat.version, stat.names, stat.edges, stat.used)
+        return Compacted(stat.version, stat.vertices, stat.edges, stat.used, time.monotonic() - begun)
 
-    def compact(self, history: History) -> Compacted:
+    def compact(self, history: History) -> FileCompacted:
         """Writes the last version as a base, and takes out of the file what is older than the history. Batches go in
         meanwhile."""
         with self._compacting:
@@ -173,7 +174,7 @@ class Journaled(Passing):
                 size = write_base(self._journal, held.number, found, base(held))
             finally:
                 held.close()
-            return Compacted(held.number, size, *drop_old(self._journal, history))
+            return FileCompacted(held.number, size, *drop_old(self._journal, history))
 
     @alone
     def _frozen(self) -> "Tuple[LibraryVersion, Callable[[Held], Base], bytes]":
@@ -233,8 +234,8 @@ class AsOf(Passing):
     def flight(self, batch: Operations, collect: bool) -> Any:
         raise self._refuse()
 
-    def rebase(self, version: Any) -> Rebased:
+    def rebase(self, version: Any) -> Compacted:
         raise self._refuse()
 
-    def renew(self) -> Renewed:
+    def renew(self) -> Compacted:
         raise self._refuse()

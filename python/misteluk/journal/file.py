@@ -1,16 +1,18 @@
 """A store's file, as the store's user has it."""
 from __future__ import annotations
 
-from typing import NamedTuple, Optional
+from dataclasses import dataclass
+from typing import Optional
 
-from .compaction import Compacted, History, checked
+from .compaction import FileCompacted, History, checked
 from .engine import Journaled
 from ..engine.operations import Post
 from ..engine.protocol import Engine
 from ..errors import StoreError
 
 
-class Recovered(NamedTuple):
+@dataclass(frozen=True)
+class Recovered:
     """How an opening found what the file holds: the version; the base that it began with, 0 where it began with the first batch;
     and how many batches with how many operations came after that."""
 
@@ -20,14 +22,15 @@ class Recovered(NamedTuple):
     operations: int
 
 
-class Kept(NamedTuple):
+@dataclass(frozen=True)
+class Kept:
     """What a file has: the oldest version that can be had and the last one, how many bytes it has, what the last compaction
     beside the feed did, and why one couldn't be made, as where the disk is full: it is tried again later."""
 
     oldest: int
     newest: int
     bytes: int
-    compacted: Optional[Compacted]
+    compacted: Optional[FileCompacted]
     fault: Optional[StoreError]
 
 
@@ -53,7 +56,7 @@ class StoreFile:
         beside = self._engine.beside
         return Kept(self._engine.oldest, self._engine.state.version, self._engine.size, beside.last, beside.fault)
 
-    def compact(self, history: History = None) -> Compacted:
+    def compact(self, history: History = None) -> FileCompacted:
         """Writes the last version as a base, with which the next opening begins. Then what is older than the history leaves the
         file: so many last versions (an int), or those of so long ago (a `timedelta`), are kept for `Store.at`; without a history
         all are. Other threads commit and ask meanwhile. An interrupt, or `NotWritten` where the disk is full, leaves what was

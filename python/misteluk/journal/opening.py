@@ -5,7 +5,7 @@ import os
 import sqlite3
 from contextlib import closing
 from datetime import date
-from typing import TYPE_CHECKING, List, Optional, Tuple, Union
+from typing import TYPE_CHECKING, Any, List, Optional, Tuple, Union
 
 from .compaction import History, checked
 from .engine import AsOf, Journaled
@@ -17,7 +17,7 @@ from ..values.texts import Path
 from ..engine.waiting import WaitingEngine
 from ..errors import OverLimit
 from ..values.limits import Limits
-from ..values.units import NUMBER, Units
+from ..values.units import Units
 
 if TYPE_CHECKING:
     from ..ledger import Ledger
@@ -27,13 +27,13 @@ When = Union[int, str, date]
 
 
 def open_journal(path: Path, *, sync: str, blocks: Optional[int], seats: int, endless: bool, limits: Optional[Limits],
-                 weight_scale: Optional[int], times: Optional[str], history: History = None) -> Journaled:
+                 units: Units[Any, Any], history: History = None) -> Journaled:
     """Makes a store's file, or opens the one that is there and recovers what it holds. What isn't said is as it was at last.
 
     Raises `OSError` where there can be no such file, `Locked` where another process writes it, `JournalFault` where it isn't as
     it was written, `ValueError` where it has other units or another limit of weights, and `OverLimit` where it has more than the
     limits take."""
-    said = Settings(weight_scale, times).with_limits(limits or Limits())
+    said = Settings(units.weight_scale, units.times).with_limits(limits or Limits())
     journal = Journal(path, sync, said)
     engine: Optional[WaitingEngine] = None
     try:
@@ -91,9 +91,9 @@ def _agreed(journal: Journal, said: Settings, limits: Optional[Limits]) -> Setti
     return (found if limits is None else found.with_limits(limits))._replace(**units)
 
 
-def units_of(settings: Settings, decimals: str, rounding: Optional[str]) -> Units:
-    """The units of a file, and how a store shows and takes weights."""
-    return Units(settings.weight_scale or 1, settings.times or NUMBER, decimals, rounding).checked()
+def units_of(settings: Settings, units: Units[Any, Any]) -> Units[Any, Any]:
+    """The units of a file, and as these say how a store shows and takes weights."""
+    return Units(settings.weight_scale, settings.times, units.decimals, units.rounding)
 
 
 def take_over(engine: Union[Journaled, AsOf], ledger: "Ledger") -> None:

@@ -5,7 +5,7 @@ from typing import Any, Mapping, Optional
 
 from ..engine.library import LibraryEngine
 from ..engine.operations import Operations
-from ..values.answers import Collected, Commit, Rebased, Renewed, Stat
+from ..values.answers import Collected, Commit, Compacted, Stat
 from ..values.limits import Limits
 
 
@@ -88,10 +88,10 @@ class Passing:
     def hold(self, slot: Optional[int]) -> Any:
         return self.inner.hold(slot)
 
-    def rebase(self, version: Any) -> Rebased:
+    def rebase(self, version: Any) -> Compacted:
         return self.inner.rebase(version)
 
-    def renew(self) -> Renewed:
+    def renew(self) -> Compacted:
         return self.inner.renew()
 
     def close(self) -> None:

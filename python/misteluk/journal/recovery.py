@@ -61,10 +61,10 @@ class State:
 
     def take(self, row: Written, commit: Commit) -> None:
         """Takes what came with a batch, which did this."""
-        self.version = self.whole = row.version
         self.sum = row.sum
         self.texts.update(texts_of(row))
         self.sources.take(row, commit)
+        self.version = self.whole = row.version  # (last: an interrupt before it has all of this taken again)
 
 
 def recover(opened: sqlite3.Connection, engine: WaitingEngine, until: Optional[int] = None) -> State:

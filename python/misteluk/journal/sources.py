@@ -3,7 +3,7 @@ from __future__ import annotations
 
 import json
 from dataclasses import dataclass, field
-from typing import Any, Dict, NamedTuple, Optional, Tuple
+from typing import Any, Dict, List, NamedTuple, Optional, Tuple
 
 from .tables import Written, digest
 from ..engine.operations import Post
@@ -81,8 +81,8 @@ class Sources:
                        {(feeder, key): _taken(*it) for feeder, key, *it in told["keys"]}, told["feeds"])
 
 
-def _told(taken: Taken) -> Tuple[Optional[int], str, Commit]:
-    return taken.sequence, taken.digest.hex(), taken.commit
+def _told(taken: Taken) -> Tuple[Optional[int], str, List[Any]]:
+    return taken.sequence, taken.digest.hex(), list(vars(taken.commit).values())
 
 
 def _taken(sequence: Optional[int], told: str, commit: Any) -> Taken:

@@ -12,7 +12,7 @@ from urllib.parse import quote
 from ..values.texts import Path
 from ..errors import JournalFault
 from ..values.limits import Limits
-from ..values.units import Units
+from ..values.units import Times, Units
 
 # The number of this form: of another one this package knows nothing; and what SQLite has as the file's application.
 FORM, APPLICATION = 2, int.from_bytes(b"mstl", "big")
@@ -82,7 +82,7 @@ class Settings(NamedTuple):
     """What holds for the whole file: units, `None` as long as nothing says them, the greatest weight, and the last limits."""
 
     weight_scale: Optional[int] = None
-    times: Optional[str] = None
+    times: Optional[Times] = None
     weight: Optional[int] = None
     vertices: Optional[int] = None
     kinds: Optional[int] = None
@@ -95,8 +95,8 @@ class Settings(NamedTuple):
     def with_limits(self, limits: Limits) -> "Settings":
         return self._replace(vertices=limits.vertices, kinds=limits.kinds, batches=limits.batches, weight=limits.weight)
 
-    def with_units(self, units: Units) -> "Settings":
-        return self._replace(weight_scale=units.weight_scale, times=units.times)
+    def with_units(self, units: Units[Any, Any]) -> "Settings":
+        return self._replace(weight_scale=units.scale, times=units.settled().times)
 
     def written(self) -> List[Statement]:
         """What writes them, with their digest."""

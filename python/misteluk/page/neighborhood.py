@@ -111,7 +111,7 @@ class Looking:
         self.is_whole = True
         # The vertices whose edges were all asked for; and of others the edges out, with the places of those that are among them.
         self._looked: Dict[str, None] = {}
-        self._among: List[Tuple[str, Edges, List[int]]] = []
+        self._among: List[Tuple[str, Edges[Any, Any], List[int]]] = []
 
     def _degrees(self, window: Window) -> Mapping[str, Degree[Any]]:
         try:
@@ -130,14 +130,14 @@ class Looking:
                 self.is_whole = False
                 return
             for name in front if self.has_kind else ():
-                self._keep(self.session.edges_out_of(name, *self.window))
-                self._keep(self.session.edges_into(name, *self.window))
+                self._keep(self.session.out_edges(name, *self.window))
+                self._keep(self.session.in_edges(name, *self.window))
             self._looked.update(dict.fromkeys(front))
             ends = [name for key in self.edges for name in key[1:]]
             front = [name for name in dict.fromkeys(ends) if name not in self.hops]
             self.hops.update(dict.fromkeys(front, hop))
 
-    def _keep(self, edges: Iterable[Told]) -> None:
+    def _keep(self, edges: "Iterable[Told[Any, Any]]") -> None:
         for kind, source, target, edge in edges:
             self.edges[kind, source, target] = edge
 
@@ -160,7 +160,7 @@ class Looking:
         place = {name: at for at, name in enumerate(names) if name in self.degrees and name not in self._looked}
         counts: "Counter[int]" = Counter()
         for name in place if self.has_kind else ():
-            found = self.session.edges_out_of(name, *self.window)
+            found = self.session.out_edges(name, *self.window)
             targets = [found.names[it] for it in found.target]
             places = [at for at, target in enumerate(targets) if target in place]
             counts.update(max(place[name], place[targets[at]]) for at in places)

@@ -8,7 +8,6 @@ import pkgutil
 from html import escape
 from typing import Any, Iterator, List, NamedTuple, Optional, Sequence, Tuple
 
-from ..values.answers import Degree
 from .drawing import Drawing, sample, text_of, time_text
 from ..values.names import shown
 from .neighborhood import CHANGED, GONE, KEPT, MOST_ASKED, MOST_EDGES, MOST_VERTICES, NEW, STATES, Key, Neighborhood
@@ -165,7 +164,8 @@ class Page:
         rows = []
         for at, name in enumerate(self.it.names[:MOST_VERTICES]):
             degrees = [side.degrees.get(name) for side in self.it.sides]
-            counts = [_both([None if it is None else it[field] for it in degrees]) for field in range(len(Degree._fields))]
+            counts = [_both([None if it is None else getattr(it, field) for it in degrees])
+                      for field in ("out", "into", "weight_out")]
             cells = f'{_name(name)}{_number(self.it.hop[name])}{"".join(counts)}'
             rows.append(f'<tr data-vertex="{at}" data-name="{escape(name)}" tabindex="-1">{cells}</tr>\n')
         return _table("vertices", "Vertices", f"degrees in the whole version; {self.it.window}", columns, rows)

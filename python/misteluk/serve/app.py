@@ -68,7 +68,7 @@ class Api:
         self.bodies = Pool(1, limits, "bodies")
         self._pools = self.quick, self.held, self.slow, self.feed, self.bodies
         self.shares = Shares(limits.each)
-        self.answers = Answers(board, self.store.ledger.terms.names)
+        self.answers = Answers(board, self.store._ledger.terms.names)
         # How many bytes of bodies are here.
         self._taken = 0
 
@@ -170,22 +170,22 @@ class Api:
             after: int = AFTER.read(request.query_params[AFTER.name])
             request.scope[CALL] = "stat_after"
             await self.bell.until(lambda: self.board.stat.version > after, min(LONGEST, self.limits.time))
-        stat, units, replica = self.board.stat, self.store.ledger.terms.units, self.health.replica
+        stat, units, replica = self.board.stat, self.store._ledger.terms.units, self.health.replica
         told = {"server": self._run.name, "began": self._run.began, "saved": self._keeper and self._keeper.told(),
                 "file": await self.quick.run(self.health.of_file), "replica": replica and replica.told(),
-                "version": stat.version, "vertices": stat.names, "edges": stat.edges,
-                "operations_kept": self.store.operations_kept,
-                "blocks": {"all": self.store.blocks, "grow": self.store.engine.grows, "free": stat.free, "retired": stat.retired,
+                "version": stat.version, "vertices": stat.vertices, "edges": stat.edges,
+                "operations_kept": self.store._engine.operations_kept,
+                "blocks": {"all": self.store.blocks, "grow": self.store._engine.grows, "free": stat.free, "retired": stat.retired,
                            "used": stat.used},
                 "held": [it._asdict() for it in await self.quick.run(self.board.held)], "seats": self.limits.versions,
                 "feed": self.feeding.told(), "limits": self.limits._asdict(),
-                "units": {"weight_scale": units.weight_scale, "times": units.times, "decimals": units.decimals,
+                "units": {"weight_scale": units.scale, "times": units.settled().times, "decimals": units.decimals,
                           "rounding": units.rounding}}
         return as_json(told)
 
     async def log(self, request: Request) -> Response:
         """What a replica applies: the batches behind `after`, for which it waits; without that a base to begin with."""
-        engine = self.store.engine
+        engine = self.store._engine
         if not isinstance(engine, Journaled):
             raise ValueError("this server's store has no file, and so no log: misteluk serve FILE")
         journaled = engine
@@ -204,7 +204,7 @@ class Api:
 
     def _counted(self) -> Dict[str, Any]:
         stat, rate = self.board.stat, self.feeding.rate
-        return {"version": stat.version, "vertices": stat.names, "edges": stat.edges, "rows": rate.total,
+        return {"version": stat.version, "vertices": stat.vertices, "edges": stat.edges, "rows": rate.total,
                 "rows_a_second": round(rate.a_second(), 1)}
 
     async def description(self, request: Request) -> Response:
@@ -266,12 +266,12 @@ class Api:
         found, person = read(await self._body(request)), _person(request)
         receipt = await self.feed.run(lambda: self.feeding.rows(found, name, person, key))
         log.note("posted", who=person.name, version=receipt.version)
-        return as_json(receipt._asdict())
+        return as_json(vars(receipt))
 
     def _key_of(self, request: Request) -> Optional[str]:
         """The key by which a post is applied once. Raises `ValueError` where nothing keeps it over a restart."""
         key: Optional[str] = request.headers.get(KEY)
-        if key is not None and not isinstance(self.store.engine, Journaled):
+        if key is not None and not isinstance(self.store._engine, Journaled):
             raise ValueError(f"{KEY} is for a server whose store has a file: misteluk serve FILE")
         if key is not None and not (key.isascii() and key.isprintable() and 0 < len(key) <= LONGEST_KEY):
             raise ValueError(f"{KEY} has 1 to {LONGEST_KEY} signs of ASCII")
@@ -295,12 +295,12 @@ class Api:
         records, person = str(text), _person(request)
         receipt = await self.feed.run(lambda: self.feeding.batch(seat, number, records, texts, collect, person))
         log.note("posted", who=person.name, version=receipt.version)
-        return as_json(receipt._asdict())
+        return as_json(vars(receipt))
 
     async def landed(self, request: Request) -> Response:
         seat, number = _batch_of(request)
         receipt = await self.feed.run(lambda: self.feeding.landed(seat, number, _person(request)))
-        return as_json({"receipt": None if receipt is None else receipt._asdict()})
+        return as_json({"receipt": None if receipt is None else vars(receipt)})
 
     # Bodies.
 
@@ -331,7 +331,8 @@ class Api:
 
 
 def _lease(lease: Lease, limits: ServerLimits) -> Dict[str, Any]:
-    return {"session": lease.name, "version": lease.shared.version, "vertices": lease.shared.session.names, "idle": limits.idle}
+    held = lease.shared
+    return {"session": lease.name, "version": held.version, "vertices": held.session.vertex_count, "idle": limits.idle}
 
 
 def _person(request: Request) -> Person:

@@ -43,8 +43,8 @@ class Answers:
         """What a client's version answers, part by part."""
         call = str(asked.get("call"))
         with self._board.lent(name, None, person) as session:
-            parts = wire.asked(session.held, call, asked, self._named)
-            if call in TABLES and wire.is_of_all(asked) and wire.WIDEST * session.names <= MOST_KEPT:
+            parts = wire.asked(session._held, call, asked, self._named)
+            if call in TABLES and wire.is_of_all(asked) and wire.WIDEST * session.vertex_count <= MOST_KEPT:
                 told = b"".join(parts)
                 _told_of(session)[call] = told
                 parts = iter([told])
@@ -64,7 +64,7 @@ class Answers:
     def _little(self, session: "Session[Any, Any]", call: Any, asked: Mapping[str, Any]) -> Optional[bytes]:
         if call == "found":
             ends = asked.get("ends")
-            return wire.found(session.held, ends) if isinstance(ends, list) and len(ends) <= FEW else None
+            return wire.found(session._held, ends) if isinstance(ends, list) and len(ends) <= FEW else None
         if call == "out_of":
             return self._few(session, asked)
         return _told_of(session).get(call) if wire.is_of_all(asked) else None
@@ -73,7 +73,7 @@ class Answers:
         name = asked.get("name")
         if isinstance(name, str) and name in self._hubs:
             return None
-        told = wire.few(session.held, asked, FEW_OUT)
+        told = wire.few(session._held, asked, FEW_OUT)
         if told is None and len(self._hubs) < MOST_HUBS:
             self._hubs.add(str(name))
         return told
@@ -81,7 +81,7 @@ class Answers:
 
 def _told_of(session: "Session[Any, Any]") -> Dict[str, bytes]:
     """The tables of a version that were told; it lets them go as it is closed."""
-    held: Any = session.held
+    held: Any = session._held
     found: Dict[str, bytes] = held.told
     return found
 

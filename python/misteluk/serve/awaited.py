@@ -1,4 +1,4 @@
-"""A session of a server for those who await: each call is made in a thread."""
+"""A session for those who await: each call is made in a thread."""
 from __future__ import annotations
 
 import asyncio
@@ -13,20 +13,38 @@ from ..values.answers import T, W
 R = TypeVar("R")
 
 
-class AwaitedSession(Generic[W, T]):
+class AsyncSession(Generic[W, T]):
     """A session whose calls are awaited: all those of `Session`, with the same arguments. `session` is the one that they are of,
-    and `ask` makes a call of anything in a thread, as `await session.ask(len, session)`.
+    and `ask` makes a call of anything in a thread, as `await session.ask(call, session)`.
 
-        async with await misteluk.connect_async("http://127.0.0.1:7700") as session:
+        async with await misteluk.AsyncSession.connect("http://127.0.0.1:7700") as session:
             levels, edge = await asyncio.gather(session.levels("ana"), session.edge("transfer", "ana", "bob"))
     """
 
     def __init__(self, session: "Session[W, T]") -> None:
         self.session, self.version = session, session.version
+        self._close: Callable[[], None] = session.close
+
+    @classmethod
+    async def connect(cls, url: str, *, version: Optional[int] = None, **options: Any) -> "AsyncSession[Any, Any]":
+        """A session of a server's last version, or that of this number, where somebody holds it. The connection ends with it.
+        `url` and the options are those of `misteluk.connect`."""
+        return await asyncio.to_thread(cls._connected, url, version, options)
+
+    @classmethod
+    def _connected(cls, url: str, version: Optional[int], options: Any) -> "AsyncSession[Any, Any]":
+        store = connect(url, **options)
+        try:
+            found = cls(store.open(version))
+        except BaseException:
+            store.close()
+            raise
+        found._close = store.close
+        return found
 
     async def ask(self, call: Callable[..., R], *given: Any, **named: Any) -> R:
-        """What a call gives that is made in a thread. An awaited session among what it is given stands for its session."""
-        return await asyncio.to_thread(call, *(it.session if isinstance(it, AwaitedSession) else it for it in given), **named)
+        """What a call gives that is made in a thread. An `AsyncSession` among what it is given stands for its session."""
+        return await asyncio.to_thread(call, *(it.session if isinstance(it, AsyncSession) else it for it in given), **named)
 
     def __getattr__(self, name: str) -> Any:
         if name.startswith("_") or name == "session":
@@ -37,19 +55,12 @@ class AwaitedSession(Generic[W, T]):
     def __dir__(self) -> List[str]:
         return sorted({*super().__dir__(), *(it for it in dir(self.session) if not it.startswith("_"))})
 
-    async def __aenter__(self) -> "AwaitedSession[W, T]":
+    async def __aenter__(self) -> "AsyncSession[W, T]":
         return self
 
     async def __aexit__(self, kind: Optional[Type[BaseException]], fault: Optional[BaseException],
                         trace: Optional[TracebackType]) -> None:
-        await self.ask(self.session.close)
+        await self.ask(self._close)
 
     def __repr__(self) -> str:
-        return f"<Awaited {self.session!r}>"
-
-
-async def connect_async(url: str, *, version: Optional[int] = None, token: Optional[str] = None, timeout: float = 60.0,
-                        keep_alive: bool = False) -> AwaitedSession[Any, Any]:
-    """A session as `connect` gives it, whose calls are awaited."""
-    return AwaitedSession(await asyncio.to_thread(connect, url, version=version, token=token, timeout=timeout,
-                                                  keep_alive=keep_alive))
+        return f"<Async {self.session!r}>"

@@ -74,7 +74,7 @@ class Board:
 
     def __init__(self, store: "Store[Any, Any]", limits: ServerLimits, clock: Callable[[], float] = time.monotonic) -> None:
         self.store, self.limits, self._clock = store, limits, clock
-        store.engine.seats = ANY_NUMBER
+        store._engine.seats = ANY_NUMBER
         # One thread advances at a time; the other lock is for what takes no time.
         self._turn, self._lock = threading.Lock(), threading.Lock()
         # Sessions that are to be closed, which waits for a batch that is being applied: never with the lock.
@@ -230,7 +230,7 @@ class Board:
     def held(self) -> List[HeldVersion]:
         """The versions that are held, in order."""
         with self._lock:
-            return [HeldVersion(it.version, it.session.names, len(it.leases), it is self._last)
+            return [HeldVersion(it.version, it.session.vertex_count, len(it.leases), it is self._last)
                     for it in sorted(self._held.values(), key=lambda it: it.version)]
 
     def leases(self, person: Person) -> List[LeaseTold]:

@@ -3,7 +3,7 @@ from __future__ import annotations
 
 import re
 from array import array
-from typing import Any, Dict, List, Mapping, Optional, Sequence, Tuple, Union
+from typing import Any, Dict, List, Mapping, Optional, Sequence, Tuple, Union, overload
 from weakref import WeakValueDictionary
 
 from . import wire
@@ -16,10 +16,10 @@ from ..engine.protocol import NO_FEEDS, Arrays, Denied, Ends, Marks, Scope
 from ..errors import Busy, NoAnswer, NoServer, NotAllowed, Refused, SessionClosed, StoreError
 from ..session import Session
 from ..store import Store
-from ..values.answers import Collected, Commit, Stat
+from ..values.answers import Collected, Commit, Stat, T, W
 from ..values.limits import MOST_BLOCKS, Limits
 from ..values.names import NameTable
-from ..values.units import Units
+from ..values.units import PLAIN, Units
 
 _AN_ID = re.compile(rb"~~[A-Za-z0-9_-]{20}")
 UNKNOWN = "Whether the batch that was sent is in isn't known"
@@ -146,7 +146,7 @@ class ServedEngine:
             self.grows, self.seats = bool(told["blocks"]["grow"]), int(told["seats"])
             # (a store that grows has as many as it needs: the server says where that is too many)
             self.blocks = MOST_BLOCKS if self.grows else int(told["blocks"]["all"])
-            self.units, self.idle = Units(**told["units"]).checked(), float(told["limits"]["idle"])
+            self.units, self.idle = Units(**told["units"]), float(told["limits"]["idle"])
             talk.most_body = int(told["limits"]["body"])
         except (KeyError, TypeError):
             raise StoreError(f"{talk.url} is no server of a store") from None
@@ -301,26 +301,26 @@ class ServedEngine:
         self.talk.close()
 
 
-class Served(Store[Any, Any]):
-    """A store that a server has (`misteluk serve`): sessions of its versions, and a feed for it.
-
-        with Served("http://127.0.0.1:7700") as store:
-            store.add("transfer", "ana", "bob", 5, time=1)
-            store.commit()
+class ServedStore(Store[W, T]):
+    """A store that a server has, which `connect` gives: sessions of its versions, and a feed for it.
 
     One client feeds a store at a time: the first commit takes the seat, and raises `Busy` where another one has it; `close` gives
-    it back. Its sessions are let go where they ask nothing for as long as the server says (`--idle`); with `keep_alive` a thread
-    tells the server in time that they are needed still, until they are closed or forgotten. `token` is the server's, else that of
-    the variable MISTELUK_TOKEN. `timeout`: for how many seconds the server may be silent.
-
-    Raises `NoServer` where none answers, and `NotAllowed` where it doesn't let this client in.
+    it back. Sessions are dropped where they ask nothing for as long as the server says (`--idle`), unless they are kept alive.
     """
 
-    def __init__(self, url: str, *, token: Optional[str] = None, timeout: float = 60.0, keep_alive: bool = False) -> None:
+    def __init__(self, engine: ServedEngine, units: Optional[Units[Any, Any]]) -> None:
         self._is_closed = True
-        engine = ServedEngine(Talk(url, token, timeout), keep_alive)
-        self._begin(engine, engine.units, True)
-        self.ledger.terms.names = engine.names
+        given = (units or PLAIN).or_those(engine.units)
+        if not given.same_as(engine.units):
+            raise ValueError(f"{engine.told()} has {engine.units}, and {given} is given")
+        self._begin(engine, given, True)
+        self._ledger.terms.names = engine.names
+
+    def open(self, version: Optional[int] = None) -> Session[W, T]:
+        """A session that holds the last version, or that of this number, where somebody holds it."""
+        self._ledger.settle()
+        engine: Any = self._engine
+        return Session(self, engine.hold(None, version))
 
     def discard(self) -> int:
         """Lets the pending operations go, and returns how many they were.
@@ -331,44 +331,50 @@ class Served(Store[Any, Any]):
         Nobody knows then whether the batch is in, and the next `discard` drops it with the others."""
         try:
             if not self.is_closed:
-                self.ledger.settle()
+                self._ledger.settle()
         except Refused:  # (so it isn't in)
             pass
         return super().discard()
 
     def _told_of_lost(self, lost: Sequence[str]) -> str:
-        sent, others = self.ledger.unanswered, "; the others aren't applied"
+        sent, others = self._ledger.unanswered, "; the others aren't applied"
         if not sent:
             return super()._told_of_lost(lost)
         return (f"{len(lost)} operations were pending. The first {sent} were sent, and whether they are in isn't known"
                 f"{others if len(lost) > sent else ''}")
 
     def __repr__(self) -> str:
-        state = f"{self.engine.open_count} sessions open, {self.pending} pending"
-        return f"<Served by {self.engine.told()}: {'closed' if self._is_closed else state}>"
+        state = f"{self._engine.open_count} sessions open, {self.pending} pending"
+        return f"<Store of {self._engine.told()}: {'closed' if self._is_closed else state}>"
 
 
-class Connected(Session[Any, Any]):
-    """A session whose connection ends with it."""
-
-    def close(self) -> None:
-        super().close()
-        self.store.close()
+@overload
+def connect(url: str, *, units: Units[W, T], token: Optional[str] = None, timeout: float = 60.0,
+            keep_alive: bool = False) -> ServedStore[W, T]: ...
 
 
-def connect(url: str, *, version: Optional[int] = None, token: Optional[str] = None, timeout: float = 60.0,
-            keep_alive: bool = False) -> "Session[Any, Any]":
-    """A session that holds the last version of a server's store, or this version, where somebody holds it. All that a session of
-    a store in this process answers it answers too, and `session.store` opens others.
+@overload
+def connect(url: str, *, units: None = None, token: Optional[str] = None, timeout: float = 60.0,
+            keep_alive: bool = False) -> ServedStore[Any, Any]: ...
 
-        with misteluk.connect("http://127.0.0.1:7700") as session:
+
+def connect(url: str, *, units: Optional[Units[Any, Any]] = None, token: Optional[str] = None, timeout: float = 60.0,
+            keep_alive: bool = False) -> ServedStore[Any, Any]:
+    """The store that a server has (`misteluk serve`). It is a `Store`: it takes operations and feeds, and its sessions answer all
+    that those of a store in this process answer.
+
+        with misteluk.connect("http://127.0.0.1:7700") as store, store.open() as session:
             print(session.version, session.levels("ana"))
 
-    `url` is `http://HOST:PORT`, with a path where a proxy has the server under one, or `unix:PATH`. See `Served` for the rest."""
-    store = Served(url, token=token, timeout=timeout, keep_alive=keep_alive)
-    engine: Any = store.engine
+    `url` is `http://HOST:PORT`, with a path where a proxy has the server under one, or `unix:PATH`. `units` say how weights are
+    shown and rounded (see `Units`); weights and times are in the server's. `token` is the server's, else that of the variable
+    MISTELUK_TOKEN. `timeout`: for how many seconds the server may be silent. With `keep_alive` a thread tells the server in time
+    that sessions are needed still, until they are closed or forgotten.
+
+    Raises `NoServer` where none answers, `NotAllowed` where it doesn't let this client in, and `ValueError` for other units."""
+    engine = ServedEngine(Talk(url, token, timeout), keep_alive)
     try:
-        return Connected(store, engine.hold(None, version))
+        return ServedStore(engine, units)
     except BaseException:
-        store.close()
+        engine.close()
         raise

@@ -27,7 +27,8 @@ def told_fault(fault: Exception, scope: MutableMapping[str, Any]) -> Response:
     status, word = status_and_word(fault)
     more: Dict[str, Any] = {"denied": True} if isinstance(fault, Denied) else {}
     if isinstance(fault, Denied) and fault.stat is not None:
-        more["stat"] = fault.stat._asdict()
+        stat = dict(vars(fault.stat))
+        more["stat"] = {"names": stat.pop("vertices"), **stat}
     return as_json(wire.fault(word, told_of(fault, word), **more), status)
 
 

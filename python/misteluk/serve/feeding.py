@@ -194,7 +194,7 @@ class Feeding:
 
     def _take_texts(self, texts: Mapping[str, str]) -> None:
         """Takes the texts of ids, which are made of them: no client can tell another text for one."""
-        names = self.store.ledger.terms.names
+        names = self.store._ledger.terms.names
         for name, text in texts.items():
             if is_plain(text) or names.to_program(text, keep=False) != name:
                 raise refusal("BadName", f"{name} is no id of {text!r}")
@@ -202,7 +202,7 @@ class Feeding:
             names.to_program(text)
 
     def _apply(self, operations: Operations, collect: bool, person: Person) -> Commit:
-        engine = self.store.engine
+        engine = self.store._engine
         operations.feeder = None if person == EVERYONE else person.name
         receipt = engine.fly(engine.flight(operations, collect))
         if receipt.version > self.board.stat.version:  # (else it was applied before, by its key)
@@ -252,7 +252,7 @@ class Feeding:
     def _records(self, rows: Iterable[Sequence[str]]) -> Deque[List[Row]]:
         """The operations of rows, by batches, which are looked at as they are read. Raises a `Refused` for the first row that is
         none; no name is kept then."""
-        terms, ledger = self.store.ledger.terms, self.store.ledger
+        terms, ledger = self.store._ledger.terms, self.store._ledger
         parts: "Deque[Tuple[Sequence[Sequence[str]], Optional[List[Row]]]]" = deque()
         found: Deque[List[Row]] = deque()
         count = 0

@@ -29,7 +29,7 @@ class Health:
         """Why it isn't ready to be asked; nothing where it is."""
         feeding, keeper = self._feeding, self._keeper
         return [*(["the first, whose replica this is, can't be read"] if self.replica is not None and self.replica.fault else []),
-                *(["the store's file takes nothing more until the server is started again"] if feeding.store.engine.has_ended
+                *(["the store's file takes nothing more until the server is started again"] if feeding.store._engine.has_ended
                   else []),
                 *(["the feed failed"] if feeding.state == "failed" else []),
                 *(["the feed's file is still read for the first time"] if feeding.is_reading else []),
@@ -39,7 +39,7 @@ class Health:
         """What the store's file has: the oldest version and how many bytes, of which version the last base is that was made
         beside the feed, and why one couldn't be made; nothing where there is no file."""
         store = self._feeding.store
-        if not isinstance(store.engine, Journaled):
+        if not isinstance(store._engine, Journaled):
             return None
         kept = store.file.kept
         return {"oldest": kept.oldest, "bytes": kept.bytes,
@@ -54,7 +54,7 @@ class Health:
     def _of_store(self) -> Iterator[Number]:
         stat, held = self._board.stat, self._board.held()
         yield gauge("version", "The number of the last version.", stat.version)
-        yield gauge("vertices", "Names of the last version.", stat.names)
+        yield gauge("vertices", "Names of the last version.", stat.vertices)
         yield gauge("edges", "Edges of the last version.", stat.edges)
         if self.replica is not None:
             told = self.replica.told()

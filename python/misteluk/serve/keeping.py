@@ -44,13 +44,8 @@ class Keeper:
         damaged, or is another one: it stays as it is."""
         if not os.path.exists(self.path):
             return None
-        units = {it: options.pop(it) for it in ("weight_scale", "times") if options.get(it) is not None}
         store = Store.restore(self.path, progress=False, **{it: value for it, value in options.items() if value is not None})
-        told = {it: getattr(store.units, it) for it in units}
-        if told != units:
-            store.close()
-            raise ValueError(f"{self.path} has {told}, and not {units}")
-        store.rebase(store.open())  # (so it keeps no operations, and its versions are counted from 0)
+        store.compact(store.open())  # (so it keeps no operations, and its versions are counted from 0)
         self._saved, self._when = 0, time.monotonic()
         return store
 

@@ -78,7 +78,8 @@ def table(session: "Session[Any, Any]", found: "Answer[Any]", given: Given) -> I
     if "top" in given:
         rows = found.top(given["top"], given.get("by"))
         fields = list(found.columns)
-        values: List[Any] = [list(it) for it in zip(*(it if len(fields) > 1 else (it,) for _, it in rows))] or [[]] * len(fields)
+        cells = [vars(it).values() if len(fields) > 1 else (it,) for _, it in rows]
+        values: List[Any] = [list(it) for it in zip(*cells)] or [[]] * len(fields)
         told = {"name": [name for name, _ in rows], **dict(zip(fields, values))}
         return columns(head, len(rows), {name: _rows(it) for name, it in told.items()}, given)
     parts = {"name": _rows(found.names), **{name: _values(it) for name, it in found.columns.items()}}
@@ -93,7 +94,7 @@ def _values(it: Values) -> Part:
     return lambda first, end: it.values[first:end] if it.told is None else it.told(it.values[first:end])
 
 
-def edges_parts(found: Edges) -> Dict[str, Part]:
+def edges_parts(found: Edges[Any, Any]) -> Dict[str, Part]:
     """The columns of edges."""
     kinds, names, units = found.kinds, found.names, found.units
     return {"kind": lambda a, b: list(map(kinds.__getitem__, found.kind[a:b])),
@@ -104,7 +105,7 @@ def edges_parts(found: Edges) -> Dict[str, Part]:
             "recent": lambda a, b: units.all_times_to_user(found.recent[a:b])}
 
 
-def edges(session: "Session[Any, Any]", found: Edges, given: Given) -> Iterator[bytes]:
+def edges(session: "Session[Any, Any]", found: Edges[Any, Any], given: Given) -> Iterator[bytes]:
     """Edges: all of them, or those with the greatest weights."""
     if "top" in given:
         rows = found.top(given["top"])
@@ -130,7 +131,7 @@ def _levels(session: "Session[Any, Any]", given: Given) -> Iterator[bytes]:
 
 def _within(session: "Session[Any, Any]", given: Given) -> Iterator[bytes]:
     is_directed = given.get("direction", "out") == "out"
-    return table(session, session.within(given["vertex"], given["hops"], **_scope(given), directed=is_directed), given)
+    return table(session, session.neighborhood(given["vertex"], given["hops"], **_scope(given), directed=is_directed), given)
 
 
 def _edge(session: "Session[Any, Any]", given: Given) -> Iterator[bytes]:
@@ -139,15 +140,15 @@ def _edge(session: "Session[Any, Any]", given: Given) -> Iterator[bytes]:
 
 
 def _edges(session: "Session[Any, Any]", given: Given) -> Iterator[bytes]:
-    return edges(session, session.edges_columns(**_scope(given)), given)
+    return edges(session, session.edges(**_scope(given)), given)
 
 
 def _out_of(session: "Session[Any, Any]", given: Given) -> Iterator[bytes]:
-    return edges(session, session.edges_out_of(given["vertex"], **_scope(given)), given)
+    return edges(session, session.out_edges(given["vertex"], **_scope(given)), given)
 
 
 def _into(session: "Session[Any, Any]", given: Given) -> Iterator[bytes]:
-    return edges(session, session.edges_into(given["vertex"], **_scope(given)), given)
+    return edges(session, session.in_edges(given["vertex"], **_scope(given)), given)
 
 
 def _path(session: "Session[Any, Any]", given: Given) -> Iterator[bytes]:
@@ -157,7 +158,7 @@ def _path(session: "Session[Any, Any]", given: Given) -> Iterator[bytes]:
 def _names(session: "Session[Any, Any]", given: Given) -> Iterator[bytes]:
     """Names that have a text, those that begin with it first."""
     text = given.get("like", "").casefold()
-    all_names = session.store.ledger.terms.names.all_to_user(session.held.names())
+    all_names = session.store._ledger.terms.names.all_to_user(session._held.names())
     found = [it for it in all_names if text in it.casefold()]
     found.sort(key=lambda it: (not it.casefold().startswith(text), len(it)))
     names = found[:given.get("top", 20)]

@@ -18,6 +18,7 @@ from ..journal.replica import Added, Copy, First, FirstFile, begun, read_added
 from ..journal.tables import Settings
 from ..store import Store
 from ..values import records
+from ..values.units import Units
 
 # How often a file is looked at, and how long it is left alone where that failed, in seconds.
 PAUSE, AFTER_A_FAULT = 0.02, 0.5
@@ -60,7 +61,7 @@ class Replica:
             raise
         self._copy = Copy(state, settings)
         self.store: Store[Any, Any] = Store.__new__(Store)
-        self.store._begin_with(self._copy, "decimal", None)
+        self.store._begin_with(self._copy, Units())
         self._over = threading.Event()
         self._thread: Optional[threading.Thread] = None
         # The last version of the first, since when it was ahead of this one, and why it can't be read.
@@ -87,13 +88,13 @@ class Replica:
         self._ahead = added.rows[0].at / 1e6 if added.rows else 0.0
         if not added.rows and added.settings == self._copy.settings:
             return False
-        before, ledger = self._copy.settings, self.store.ledger
+        before, ledger = self._copy.settings, self.store._ledger
         try:
             self._copy.take(added)
         finally:
             take_over(self._copy, ledger)
             if self._copy.settings != before:
-                ledger.terms.units = units_of(self._copy.settings, ledger.terms.units.decimals, None)
+                ledger.terms.units = units_of(self._copy.settings, ledger.terms.units)
             board.advance()
         self._ahead = self._ahead if self.behind else 0.0
         return bool(added.rows)

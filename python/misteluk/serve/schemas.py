@@ -5,7 +5,7 @@ from typing import Any, Dict, Sequence
 
 from .limits import ServerLimits
 from .board import HeldVersion, LeaseTold
-from ..values.answers import Commit
+from ..values.answers import COUNTS
 
 Schema = Dict[str, Any]
 WHOLE: Schema = {"type": "integer", "minimum": 0}
@@ -40,7 +40,7 @@ def table(columns: Sequence[str], **more: Schema) -> Schema:
 
 EDGE = of({"weight": MARK, "first": MARK, "recent": MARK})
 FAULT = of({"error": TEXT, "reason": TEXT}, retry_after=WHOLE, denied=TRUTH, status=WHOLE, stat={"type": "object"})
-RECEIPT = of({it: WHOLE for it in Commit._fields})
+RECEIPT = of({it: WHOLE for it in ("version", *COUNTS)})
 SESSION = of({"session": TEXT, "version": WHOLE, "vertices": WHOLE, "idle": NUMBER})
 FEED = of({"state": TEXT, "rows": WHOLE, "rows_a_second": NUMBER, "bad": WHOLE, "expired": WHOLE}, by=TEXT, behind=WHOLE,
           last_bad=of({"line": WHOLE, "reason": TEXT}), half_line=TRUTH, readers_killed=WHOLE, replaced=TRUTH, error=TEXT,

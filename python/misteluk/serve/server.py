@@ -125,7 +125,7 @@ class Server:
         address, self.people = Address.of(listen), people or People()
         if not self.people.are_any and not address.is_of_here:
             raise ValueError(f"{listen} can be reached from other machines: that wants a token (--token-file)")
-        if store.engine.name != LIBRARY:
+        if store._engine.name != LIBRARY:
             raise ValueError("a server has its store in its own process, and serves none of another server")
         self.limits, self.store, self._keeper, self._manager = limits.checked(), store, keeper, manager or Manager()
         self.replica = replica

@@ -179,6 +179,10 @@ def part(name: str) -> str:
     return quote(name, safe="")
 
 
+def _stat(found: Mapping[str, int]) -> Stat:
+    return Stat(found["version"], found["names"], found["edges"], found["free"], found["retired"], found["used"])
+
+
 def fault_of(told: Told) -> Exception:
     """What is raised for a fault that the server told."""
     if told.media != JSON:
@@ -186,7 +190,7 @@ def fault_of(told: Told) -> Exception:
     found = told.json()
     word, reason = str(found.get("error", "")), str(found.get("reason", ""))
     if found.get("denied"):
-        return Denied(word, stat=Stat(**found["stat"]) if "stat" in found else None)
+        return Denied(word, stat=_stat(found["stat"]) if "stat" in found else None)
     again = f"; ask again in {told.retry_after} s" if told.retry_after else ""
     if word in ("NoSeat", "NotAllowed", "Busy", "SessionClosed", "NoMemory", "TooLong"):
         kind: Any = NoAnswer if word == "TooLong" else TABLE[word].error

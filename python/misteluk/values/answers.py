@@ -1,9 +1,10 @@
-"""What the store answers: small named tuples, and tables by name."""
+"""What the store answers: small frozen classes, and tables by name."""
 from __future__ import annotations
 
 import heapq
 from array import array
 from collections import Counter
+from dataclasses import dataclass, fields, is_dataclass
 from html import escape
 from types import MappingProxyType
 from typing import (TYPE_CHECKING, Any, Callable, Dict, Generic, ItemsView, Iterable, Iterator, KeysView, List, Mapping,
@@ -24,7 +25,8 @@ T = TypeVar("T")
 ROWS_SHOWN = 10
 
 
-class Commit(NamedTuple):
+@dataclass(frozen=True)
+class Commit:
     """What batches did: the last version's number; how many operations inserted an edge, updated one, removed one, found none
     to remove, and changed nothing since a weight would have left its limits; how many batches they were cut into; and how many
     edges expired."""
@@ -41,17 +43,18 @@ class Commit(NamedTuple):
 
 # What no batch did.
 NOTHING = Commit(0, 0, 0, 0, 0, 0, 0)
+COUNTS = ("inserted", "updated", "removed", "absent", "overflowed", "batches", "expired")
 
 
 def sum_of(receipts: Sequence[Commit]) -> Commit:
     """What several batches did, as one: the last one's version, and the sums of the counts."""
     if len(receipts) == 1:
         return receipts[0]
-    counts = [sum(column) for column in zip(*(it[1:] for it in receipts))]
-    return Commit(receipts[-1].version, *counts)
+    return Commit(receipts[-1].version, **{name: sum(getattr(it, name) for it in receipts) for name in COUNTS})
 
 
-class Collected(NamedTuple):
+@dataclass(frozen=True)
+class Collected:
     """What a collection did: the floor, how many blocks it freed, and how many stay retired."""
 
     floor: int
@@ -59,11 +62,12 @@ class Collected(NamedTuple):
     retired: int
 
 
-class Stat(NamedTuple):
-    """The last version's number, its names and edges; and how many blocks are free, retired and used."""
+@dataclass(frozen=True)
+class Stat:
+    """The last version's number, its vertices and edges; and how many blocks are free, retired and used."""
 
     version: int
-    names: int
+    vertices: int
     edges: int
     free: int
     retired: int
@@ -71,73 +75,59 @@ class Stat(NamedTuple):
 
     def _repr_html_(self) -> str:
         """What a notebook shows."""
-        return shown_as_html("Stat", self._asdict())
+        return shown_as_html("Stat", vars(self))
 
 
-class Rebased(NamedTuple):
-    """What a store began anew with: its version's number, 0, its names and edges, and how many blocks these use."""
+@dataclass(frozen=True)
+class Compacted:
+    """What a store began again with: its version's number, its vertices and edges, how many blocks these use, and for how many
+    seconds the store did nothing else."""
 
     version: int
-    names: int
+    vertices: int
     edges: int
     used: int
-
-
-class Renewed(NamedTuple):
-    """When a store began anew with its last edges: the version, its names and edges that went along, and for how many seconds the
-    store did nothing else."""
-
-    version: int
-    names: int
-    edges: int
     seconds: float
 
     def __str__(self) -> str:
-        return (f"began anew at version {self.version}: {self.edges} edges and {self.names} names went along, in "
-                f"{self.seconds:.1f} s")
+        return (f"began again at version {self.version}: {self.edges} edges and {self.vertices} vertices, in {self.used} blocks "
+                f"and {self.seconds:.1f} s")
 
 
-# Before Python 3.11 a named tuple has no parameters where it runs: those of these three are for a type checker, which is told of
-# them in the same words.
+@dataclass(frozen=True)
+class Degree(Generic[W]):
+    """How many edges go out of a vertex and how many come in, and the sum of the weights of those that go out: a whole number, or
+    a decimal one in a store that has a `weight_scale`."""
+
+    out: int
+    into: int
+    weight_out: W
+
+
+# Before Python 3.11 a named tuple has no parameters where it runs: those of an edge are for a type checker, which is told of them
+# in the same words.
 if TYPE_CHECKING:
-    class Degree(NamedTuple, Generic[W]):
-        out: int
-        into: int
-        weight_out: W
-
     class Edge(NamedTuple, Generic[W, T]):
         weight: W
         first: T
         recent: T
-
-    class Neighbor(NamedTuple, Generic[W, T]):
-        out: "Optional[Edge[W, T]]"
-        into: "Optional[Edge[W, T]]"
 else:
-    class Degree(NamedTuple):
-        """How many edges go out of a vertex and how many come in, and the sum of the weights of those that go out: a whole
-        number, or a decimal one in a store that has a `weight_scale`. For a type checker it is a `Degree[W]`, of weights that are
-        W."""
-
-        out: int
-        into: int
-        weight_out: Any
-
     class Edge(NamedTuple):
         """An edge's weight, the time of the operation that added it, and that of the last one that touched it. These are whole
-        numbers; in a store that has units the weight is a decimal number, and a time a `datetime` in UTC. For a type checker it
-        is an `Edge[W, T]`, of weights that are W and times that are T."""
+        numbers; in a store that has units the weight is a decimal number, and a time a `datetime` in UTC. It may be unpacked:
+        `weight, first, recent = edge`. For a type checker it is an `Edge[W, T]`, of weights that are W and times that are T."""
 
         weight: Any
         first: Any
         recent: Any
 
-    class Neighbor(NamedTuple):
-        """A vertex's edge to a neighbor, and its edge from it; `None` where there is none. For a type checker it is a
-        `Neighbor[W, T]`, as an `Edge` is."""
 
-        out: Optional[Edge]
-        into: Optional[Edge]
+@dataclass(frozen=True)
+class Neighbor(Generic[W, T]):
+    """A vertex's edge to a neighbor, and its edge from it; `None` where there is none."""
+
+    out: "Optional[Edge[W, T]]"
+    into: "Optional[Edge[W, T]]"
 
 
 # The columns of degrees: also as they are named on a command line.
@@ -261,7 +251,7 @@ class Answer(Mapping[str, V], Generic[V]):
         pandas = needed("pandas", "a frame")
         index = pandas.Index(list(self.names), name="name", dtype=object)
         if not self.columns:
-            rows: Any = list(self.values())
+            rows = list(map(_cells, self.values()))
             return pandas.DataFrame(rows, index=index, columns=self._fields())
         return pandas.DataFrame({name: list(it.all_told()) for name, it in self.columns.items()}, index=index)
 
@@ -270,11 +260,13 @@ class Answer(Mapping[str, V], Generic[V]):
         if self.columns:
             return list(self.columns)
         first = next(iter(self.values()), None)
+        if is_dataclass(first):
+            return [it.name for it in fields(first)]
         return list(getattr(first, "_fields", [self.value]))
 
     def _repr_html_(self) -> str:
         """What a notebook shows: the first rows, and how many there are."""
-        rows = [[name, *(it if isinstance(it, tuple) else [it])] for name, it in self._rows_from(0, ROWS_SHOWN)]
+        rows = [[name, *_cells(it)] for name, it in self._rows_from(0, ROWS_SHOWN)]
         told = f"{len(self)} {'name' if len(self) == 1 else 'names'} of version {self.version}: {self.request}"
         return rows_as_html(["name", *self._fields()], rows, told)
 
@@ -282,16 +274,14 @@ class Answer(Mapping[str, V], Generic[V]):
         """The rows with the greatest values, greatest first; equal ones in the order of the table. `by` says by which column of
         degrees: "out" (which they are by where none is said), "into" (or "incoming") or "weight"; other tables have one column
         alone."""
-        fields = self._fields()
-        field = BY_COLUMN.get(by or "out", by) if len(fields) > 1 or by else fields[0]
-        if self.names and field not in fields:
+        names = self._fields()
+        field = BY_COLUMN.get(by or "out", by) if len(names) > 1 or by else names[0]
+        if self.names and field not in names:
             raise ValueError(f"by is 'out', 'into' or 'weight' for degrees, and not {by!r}")
         values: Any = list(self._values() if self.columns else self.values())
-        order = [getattr(it, field or "") for it in values] if len(fields) > 1 else values
+        order = [getattr(it, field or "") for it in values] if len(names) > 1 else values
         places = heapq.nlargest(count, range(len(order)), key=order.__getitem__)
         return [(self.names[at], values[at]) for at in places]
-
-    most = top
 
 
 class Components(Answer[str]):
@@ -307,7 +297,12 @@ class Components(Answer[str]):
             raise ValueError(f"by is for degrees: components are told by their sizes, and not by {by!r}")
         return Counter(self.values()).most_common(count)
 
-    most = top
+
+def _cells(value: Any) -> Sequence[Any]:
+    """The values of a row's value, which may be several."""
+    if is_dataclass(value):
+        return list(vars(value).values())
+    return value if isinstance(value, tuple) else [value]
 
 
 def rows_as_html(head: Sequence[str], rows: Iterable[Sequence[object]], told: str) -> str:

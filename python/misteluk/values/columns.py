@@ -29,11 +29,11 @@ class FieldColumn(Sequence[str]):
         them isn't the same any more."""
         return None
 
-    def weights(self, units: "Units") -> "Optional[array[int]]":
+    def weights(self, units: "Units[Any, Any]") -> "Optional[array[int]]":
         """The program's weights."""
         return None
 
-    def times(self, units: "Units") -> "Optional[array[int]]":
+    def times(self, units: "Units[Any, Any]") -> "Optional[array[int]]":
         """The program's times."""
         return None
 
@@ -73,10 +73,10 @@ class Same(FieldColumn):
         found = numbers_of([self._text])
         return None if found is None else found * self._count
 
-    def weights(self, units: "Units") -> "Optional[array[int]]":
+    def weights(self, units: "Units[Any, Any]") -> "Optional[array[int]]":
         return self._times("q", units.weights_of([self._text])[0])
 
-    def times(self, units: "Units") -> "Optional[array[int]]":
+    def times(self, units: "Units[Any, Any]") -> "Optional[array[int]]":
         return self._times("Q", units.times_of([self._text])[0])
 
     def _times(self, code: str, value: Optional[int]) -> "Optional[array[int]]":

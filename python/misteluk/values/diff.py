@@ -1,9 +1,10 @@
 """What became of edges from one version to another."""
 from __future__ import annotations
 
-from typing import TYPE_CHECKING, Any, Dict, List, NamedTuple, Optional, Sequence, Tuple
+from dataclasses import dataclass
+from typing import TYPE_CHECKING, Any, Dict, Generic, List, NamedTuple, Optional, Sequence, Tuple
 
-from .answers import ROWS_SHOWN, Edge, rows_as_html
+from .answers import ROWS_SHOWN, Edge, T, W, rows_as_html
 from .edges import A_FEW, HEADER, Edges
 from .fields import numpy_for
 from ..errors import needed
@@ -17,14 +18,15 @@ DIFF_HEADER = ["state", *HEADER[:3], *(f"{it}_{when}" for when in MOMENTS for it
 KIND_BITS, NAME_BITS = 7, 27
 
 
-class Changed(NamedTuple):
+@dataclass(frozen=True)
+class Changed(Generic[W, T]):
     """An edge that has another weight or time: as it was, and as it is."""
 
     kind: str
     source: str
     target: str
-    before: Any
-    after: Any
+    before: "Edge[W, T]"
+    after: "Edge[W, T]"
 
 
 class Places(NamedTuple):
@@ -36,21 +38,21 @@ class Places(NamedTuple):
     after: Sequence[int]
 
 
-class Diff:
+class Diff(Generic[W, T]):
     """What became of the edges from one version to another: those that are `gone` and those that are `new`, as `Edges`, and those
     that `changed`, as `Edges` of the earlier version (`before`) and of the later one (`after`), in the same order."""
 
-    def __init__(self, earlier: Edges, later: Edges) -> None:
+    def __init__(self, earlier: Edges[W, T], later: Edges[W, T]) -> None:
         numpy = numpy_for(len(earlier) + len(later), A_FEW)
         found = places_of(earlier, later) if numpy is None else places_at_once(numpy, earlier, later)
-        self.gone, self.new = earlier.some(found.gone), later.some(found.new)
-        self.before, self.after = earlier.some(found.before), later.some(found.after)
+        self.gone, self.new = earlier.take(found.gone), later.take(found.new)
+        self.before, self.after = earlier.take(found.before), later.take(found.after)
 
     @property
-    def changed(self) -> List[Changed]:
+    def changed(self) -> "List[Changed[W, T]]":
         """The edges that have another weight or time."""
         return [Changed(kind, source, target, before, after)
-                for (kind, source, target, before), after in zip(self.before, self.after.edges())]
+                for (kind, source, target, before), after in zip(self.before, self.after._marks())]
 
     def counts(self) -> Dict[str, int]:
         """How many edges are gone, new and changed."""
@@ -62,13 +64,13 @@ class Diff:
         numpy, pandas = needed("numpy", "a frame"), needed("pandas", "a frame")
         counts, ends = list(self.counts().values()), (self.gone, self.new, self.before)
         found: Dict[str, Any] = {"state": numpy.array([*self.counts()], dtype=object).repeat(counts)}
-        found.update((name, numpy.concatenate([it.named(name) for it in ends])) for name in HEADER[:3])
+        found.update((name, numpy.concatenate([it._named(name) for it in ends])) for name in HEADER[:3])
         for when, parts in zip(MOMENTS, ((self.gone, None, self.before), (None, self.new, self.after))):
             is_there = numpy.repeat([it is not None for it in parts], counts)
             for name in Edge._fields:
                 numbers = [numpy.zeros(count, dtype="int64") if it is None else numpy.asarray(it.columns[name]).astype("int64")
                            for it, count in zip(parts, counts)]
-                found[f"{name}_{when}"] = self.after.of_frame(name, numpy.concatenate(numbers), is_there)
+                found[f"{name}_{when}"] = self.after._of_frame(name, numpy.concatenate(numbers), is_there)
         return pandas.DataFrame(found)
 
     def _rows(self, some: slice, nothing: Any) -> List[Any]:
@@ -76,7 +78,7 @@ class Diff:
         rows: List[Any] = [("gone", *ends, *edge, *(nothing,) * 3) for *ends, edge in self.gone[some]]
         rows += [("new", *ends, *(nothing,) * 3, *edge) for *ends, edge in self.new[some]]
         return rows + [("changed", *ends, *edge, *after) for (*ends, edge), after in zip(
-            self.before[some], self.after[some].edges())]
+            self.before[some], self.after[some]._marks())]
 
     def __bool__(self) -> bool:
         """Whether there is any difference."""
@@ -103,7 +105,7 @@ def _numbers(earlier: Sequence[str], later: Sequence[str]) -> Optional[List[int]
     return [known.setdefault(it, len(known)) for it in later]
 
 
-def places_of(earlier: Edges, later: Edges) -> Places:
+def places_of(earlier: Edges[Any, Any], later: Edges[Any, Any]) -> Places:
     """The places of edges, edge by edge."""
     kinds, names = (it or range(len(mine)) for it, mine in ((_numbers(earlier.kinds, later.kinds), later.kinds),
                                                              (_numbers(earlier.names, later.names), later.names)))
@@ -116,7 +118,7 @@ def places_of(earlier: Edges, later: Edges) -> Places:
                   [at for _, at in changed])
 
 
-def places_at_once(numpy: Any, earlier: Edges, later: Edges) -> Places:
+def places_at_once(numpy: Any, earlier: Edges[Any, Any], later: Edges[Any, Any]) -> Places:
     """The same by whole columns: an edge's kind and ends are one number."""
     old, new = _keys(numpy, earlier, None, None), _keys(numpy, later, _numbers(earlier.kinds, later.kinds),
                                                         _numbers(earlier.names, later.names))
@@ -126,7 +128,7 @@ def places_at_once(numpy: Any, earlier: Edges, later: Edges) -> Places:
     after = numpy.flatnonzero(is_there)
     before = at[after]
     is_changed = numpy.zeros(len(after), dtype=bool)
-    for one, other in zip(earlier.marks, later.marks):
+    for one, other in zip(*((it.weight, it.first, it.recent) for it in (earlier, later))):
         is_changed |= numpy.asarray(one)[before] != numpy.asarray(other)[after]
     return Places(numpy.flatnonzero(is_gone), numpy.flatnonzero(~is_there), before[is_changed], after[is_changed])
 
@@ -142,7 +144,7 @@ def _matched(numpy: Any, old: Any, new: Any) -> "Tuple[Any, Any]":
     return order[at], in_order[at] == new
 
 
-def _keys(numpy: Any, edges: Edges, kinds: Optional[List[int]], names: Optional[List[int]]) -> Any:
+def _keys(numpy: Any, edges: Edges[Any, Any], kinds: Optional[List[int]], names: Optional[List[int]]) -> Any:
     """One number for each edge, of its source, target and kind."""
     columns = []
     for column, numbers in ((edges.source, names), (edges.target, names), (edges.kind, kinds)):

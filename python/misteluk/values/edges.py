@@ -4,9 +4,9 @@ from __future__ import annotations
 import heapq
 from array import array
 from functools import cached_property
-from typing import TYPE_CHECKING, Any, Dict, Iterator, List, Sequence, Tuple
+from typing import TYPE_CHECKING, Any, Dict, Generic, Iterator, List, Literal, Sequence, Tuple, overload
 
-from .answers import ROWS_SHOWN, Edge, rows_as_html
+from .answers import ROWS_SHOWN, Edge, T, W, rows_as_html
 from .arrays import ReadOnlyArray, cut
 from .fields import fields_of_csv, numpy_for
 from .units import Units
@@ -25,7 +25,10 @@ HEADER = ("kind", "source", "target", *Edge._fields)
 # How many edges are written at once; and from how many on numpy is quicker than loops, once it is loaded.
 WRITTEN_AT_ONCE, A_FEW = 65_536, 500
 # An edge as a user is told it.
-Told = Tuple[str, str, str, Any]
+if TYPE_CHECKING:
+    Told = Tuple[str, str, str, Edge[W, T]]
+else:
+    Told = Tuple[str, str, str, Any]
 
 
 def _column(at: int) -> "cached_property[ReadOnlyArray]":
@@ -33,7 +36,7 @@ def _column(at: int) -> "cached_property[ReadOnlyArray]":
     return cached_property(lambda edges: ReadOnlyArray(edges._columns[at]))
 
 
-class Edges(Sequence[Told]):
+class Edges(Sequence["Told[W, T]"], Generic[W, T]):
     """Edges as columns of one length, and a sequence of (kind, source, target, `Edge`).
 
     `kind`, `source` and `target` are arrays of numbers, whose names `kinds` and `names` have: the layout of Arrow's dictionaries.
@@ -44,7 +47,7 @@ class Edges(Sequence[Told]):
 
     kind, source, target, weight, first, recent = map(_column, range(6))
 
-    def __init__(self, kinds: Sequence[str], names: Sequence[str], units: Units, columns: "Sequence[array[int]]") -> None:
+    def __init__(self, kinds: Sequence[str], names: Sequence[str], units: Units[W, T], columns: "Sequence[array[int]]") -> None:
         self.kinds, self.names, self.units, self._columns = kinds, names, units, columns
 
     def __reduce__(self) -> Any:
@@ -58,22 +61,37 @@ class Edges(Sequence[Told]):
     def __len__(self) -> int:
         return len(self._columns[0])
 
+    @overload
+    def __getitem__(self, at: int) -> "Told[W, T]": ...
+
+    @overload
+    def __getitem__(self, at: slice) -> "Edges[W, T]": ...
+
     def __getitem__(self, at: Any) -> Any:
         if isinstance(at, slice):
             return Edges(self.kinds, self.names, self.units, [it[at] for it in self._columns])
         kind, source, target, *marks = [it[at] for it in self._columns]
         return self.kinds[kind], self.names[source], self.names[target], self.units.edge_to_user(*marks)
 
-    def __iter__(self) -> Iterator[Told]:
+    def __iter__(self) -> "Iterator[Told[W, T]]":
         kinds, names = self.kinds.__getitem__, self.names.__getitem__
         kind, source, target, *_ = self._columns
-        return zip(map(kinds, kind), map(names, source), map(names, target), self.edges())
+        return zip(map(kinds, kind), map(names, source), map(names, target), self._marks())
 
-    def edges(self) -> Iterator[Edge[Any, Any]]:
-        """The edges alone, in the store's units."""
-        return map(Edge, *self.told())
+    def _marks(self) -> "Iterator[Edge[W, T]]":
+        """Each edge's weight and times, in the store's units."""
+        return map(Edge, *self._told())
 
-    def some(self, places: Sequence[int]) -> "Edges":
+    def where(self, mask: Sequence[Any]) -> "Edges[W, T]":
+        """The edges where the mask, an array or a sequence of as many truths, is true.
+
+            edges.where(edges.numpy()["weight"] > 100)
+        """
+        if len(mask) != len(self):
+            raise ValueError(f"a mask has a truth for each of {len(self)} edges, and this has {len(mask)}")
+        return self.take([at for at, it in enumerate(mask) if it])
+
+    def take(self, places: Sequence[int]) -> "Edges[W, T]":
         """The edges in these places."""
         numpy = numpy_for(len(places), A_FEW)
         if numpy is None:
@@ -82,12 +100,7 @@ class Edges(Sequence[Told]):
             columns = [array(it.typecode, numpy.asarray(it)[places].tobytes()) for it in self._columns]
         return Edges(self.kinds, self.names, self.units, columns)
 
-    @property
-    def marks(self) -> "Sequence[ReadOnlyArray]":
-        """The weights and both times."""
-        return self.weight, self.first, self.recent
-
-    def told(self) -> "List[Sequence[Any]]":
+    def _told(self) -> "List[Sequence[Any]]":
         """The weights and both times in the store's units, by column."""
         return [self.units.all_weights_to_user(self.weight), self.units.all_times_to_user(self.first),
                 self.units.all_times_to_user(self.recent)]
@@ -102,18 +115,18 @@ class Edges(Sequence[Told]):
         """The edges as a pandas frame of your own: kind, source, target, weight, first, recent. Decimal weights are objects,
         which pandas can't sum as numbers, unless the store has `decimals="float"`."""
         numpy, pandas = needed("numpy", "a frame"), needed("pandas", "a frame")
-        found = {name: self.named(name) for name in HEADER[:3]}
+        found = {name: self._named(name) for name in HEADER[:3]}
         for name in Edge._fields:
-            found[name] = self.of_frame(name, numpy.asarray(self.columns[name]).astype("int64"))
+            found[name] = self._of_frame(name, numpy.asarray(self.columns[name]).astype("int64"))
         return pandas.DataFrame(found)  # (without `columns`, which has pandas make objects of the dates)
 
-    def named(self, name: str) -> Any:
+    def _named(self, name: str) -> Any:
         """The names of a column, kind, source or target, as an array of numpy."""
         numpy = needed("numpy", "an array")
         names = numpy.array([*(self.kinds if name == "kind" else self.names), None], dtype=object)
         return names[numpy.asarray(self.columns[name])]
 
-    def of_frame(self, name: str, numbers: Any, is_there: Any = None) -> Any:
+    def _of_frame(self, name: str, numbers: Any, is_there: Any = None) -> Any:
         """A frame's column of weights or times, which are whole numbers here; empty where one isn't there. A date that pandas
         doesn't have as a number makes all of them objects."""
         if is_there is not None and not is_there.any():
@@ -121,7 +134,7 @@ class Edges(Sequence[Told]):
         has_gaps = is_there is not None and not is_there.all()
         if name != "weight" and self.units.has_dates:
             return self._dates_of_frame(numbers, is_there if has_gaps else None)
-        if name == "weight" and self.units.weight_scale != 1:
+        if name == "weight" and self.units.scale != 1:
             told: Any = self.units.all_weights_to_user(numbers.tolist())
             return list(told) if not has_gaps else [it if there else None for it, there in zip(told, is_there.tolist())]
         if has_gaps:
@@ -157,7 +170,7 @@ class Edges(Sequence[Told]):
             graph[name] = value
         graph.vs["name"] = list(self.names)
         graph.es["kind"] = list(map(self.kinds.__getitem__, self.kind))
-        for name, values in zip(Edge._fields, self.told()):
+        for name, values in zip(Edge._fields, self._told()):
             graph.es[name] = list(values)
         return graph
 
@@ -181,7 +194,7 @@ class Edges(Sequence[Told]):
                 file.write("\n".join([*map(",".join, zip(*columns)), ""]))
         return len(self)
 
-    def top(self, count: int = 10, by: str = "weight") -> List[Told]:
+    def top(self, count: int = 10, by: Literal["weight", "first", "recent"] = "weight") -> "List[Told[W, T]]":
         """The edges with the greatest values, greatest first: by "weight", "first" or "recent"."""
         if by not in Edge._fields:
             raise ValueError(f"by is 'weight', 'first' or 'recent' for edges, and not {by!r}")

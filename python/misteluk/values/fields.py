@@ -55,10 +55,10 @@ class Fields(FieldColumn):
     def some(self, rows: slice) -> "Fields":
         return Fields(self._text, self._data, self._begins[rows], self._ends[rows])
 
-    def weights(self, units: "Units") -> "Optional[array[int]]":
+    def weights(self, units: "Units[Any, Any]") -> "Optional[array[int]]":
         return whole(units.weights_of(self))
 
-    def times(self, units: "Units") -> "Optional[array[int]]":
+    def times(self, units: "Units[Any, Any]") -> "Optional[array[int]]":
         return whole(units.times_of(self))
 
     def numbered(self, numbers_of: NumbersOf, of: object = None) -> "Optional[array[int]]":

@@ -46,10 +46,10 @@ class Whole:
     def numbered(self, rows: slice, numbers_of: NumbersOf, of: object) -> "Optional[array[int]]":
         return None
 
-    def weights(self, rows: slice, units: Units) -> "Optional[array[int]]":
+    def weights(self, rows: slice, units: Units[Any, Any]) -> "Optional[array[int]]":
         return None
 
-    def times(self, rows: slice, units: Units) -> "Optional[array[int]]":
+    def times(self, rows: slice, units: Units[Any, Any]) -> "Optional[array[int]]":
         return None
 
 
@@ -77,10 +77,10 @@ class Given(FieldColumn):
     def numbered(self, numbers_of: NumbersOf, of: object) -> "Optional[array[int]]":
         return self._of.numbered(slice(self._first, self._end), numbers_of, of)
 
-    def weights(self, units: Units) -> "Optional[array[int]]":
+    def weights(self, units: Units[Any, Any]) -> "Optional[array[int]]":
         return self._of.weights(slice(self._first, self._end), units)
 
-    def times(self, units: Units) -> "Optional[array[int]]":
+    def times(self, units: Units[Any, Any]) -> "Optional[array[int]]":
         return self._of.times(slice(self._first, self._end), units)
 
 
@@ -94,18 +94,18 @@ class Texts(Whole):
     def numbered(self, rows: slice, numbers_of: NumbersOf, of: object) -> "Optional[array[int]]":
         return numbers_of(self.source[rows])
 
-    def weights(self, rows: slice, units: Units) -> "Optional[array[int]]":
+    def weights(self, rows: slice, units: Units[Any, Any]) -> "Optional[array[int]]":
         return whole(units.weights_of(self.source[rows]))
 
-    def times(self, rows: slice, units: Units) -> "Optional[array[int]]":
+    def times(self, rows: slice, units: Units[Any, Any]) -> "Optional[array[int]]":
         return whole(units.times_of(self.source[rows]))
 
 
 class Decimals(Whole):
     """A list of decimal numbers."""
 
-    def weights(self, rows: slice, units: Units) -> "Optional[array[int]]":
-        scale, most = Decimal(units.weight_scale), records.MOST_WEIGHT
+    def weights(self, rows: slice, units: Units[Any, Any]) -> "Optional[array[int]]":
+        scale, most = Decimal(units.scale), records.MOST_WEIGHT
         try:
             parts = [_EXACT.multiply(it, scale) for it in self.source[rows]]
             if not (-most <= min(parts) and max(parts) <= most):
@@ -194,13 +194,13 @@ class Numbers(Coded):
         found = codes.astype(object) + self._least if self._known is None else self._known[codes]
         return list(map(str, found.tolist()))
 
-    def weights(self, rows: slice, units: Units) -> "Optional[array[int]]":
-        values, most = self.values[rows], records.MOST_WEIGHT // units.weight_scale
+    def weights(self, rows: slice, units: Units[Any, Any]) -> "Optional[array[int]]":
+        values, most = self.values[rows], records.MOST_WEIGHT // units.scale
         if values.max() > most or values.min() < -most:
             return None
-        return array("q", (values.astype("int64") * units.weight_scale).tobytes())
+        return array("q", (values.astype("int64") * units.scale).tobytes())
 
-    def times(self, rows: slice, units: Units) -> "Optional[array[int]]":
+    def times(self, rows: slice, units: Units[Any, Any]) -> "Optional[array[int]]":
         values = self.values[rows]
         if values.min() < 0 or values.max() > records.MOST_TIME or units.has_dates and values.any():
             return None
@@ -214,15 +214,15 @@ class Floats(Whole):
         super().__init__(numpy, source, texts_of)
         self.values = values
 
-    def weights(self, rows: slice, units: Units) -> "Optional[array[int]]":
+    def weights(self, rows: slice, units: Units[Any, Any]) -> "Optional[array[int]]":
         with self.numpy.errstate(all="ignore"):
             parts = self._parts(rows, units)
         return None if parts is None else array("q", parts.astype("int64").tobytes())
 
-    def _parts(self, rows: slice, units: Units) -> Any:
+    def _parts(self, rows: slice, units: Units[Any, Any]) -> Any:
         """The parts of floats; `None` where one of them has none, or may have none. A float of 64 bits is printed with so many
         decimals at most where the one next to the number with that many is the same: such numbers have less than 15 digits."""
-        numpy, values, scale = self.numpy, self.values[rows], units.weight_scale
+        numpy, values, scale = self.numpy, self.values[rows], units.scale
         product = values.astype("float64") * scale
         found = numpy.rint(product)
         is_right = found / scale == values
@@ -236,7 +236,7 @@ class Floats(Whole):
             found[at] = units.weights_of(self.texts(rows.start + at, rows.start + at + 1))[0]
         return found
 
-    def times(self, rows: slice, units: Units) -> "Optional[array[int]]":
+    def times(self, rows: slice, units: Units[Any, Any]) -> "Optional[array[int]]":
         values = self.values[rows]
         with self.numpy.errstate(all="ignore"):
             is_right = (values >= 0) & (values <= _SURE) & (self.numpy.rint(values) == values)
@@ -252,7 +252,7 @@ class Moments(Whole):
         super().__init__(numpy, source, texts_of)
         self.values = values
 
-    def times(self, rows: slice, units: Units) -> "Optional[array[int]]":
+    def times(self, rows: slice, units: Units[Any, Any]) -> "Optional[array[int]]":
         unit, count = self.numpy.datetime_data(self.values.dtype)
         values = self.values[rows].astype("int64")
         if not units.has_dates or count != 1 or unit not in {**_LONG, "ns": 1} or values.min() < 0:  # (so is one that is none)

@@ -1,7 +1,8 @@
 """How much a store takes at most, and numbers that have a least and a greatest value."""
 from __future__ import annotations
 
-from typing import List, NamedTuple, Optional
+from dataclasses import dataclass
+from typing import List, Optional
 
 # What no limits pass: vertices, kinds, batches, blocks and weights; and with the largest weights vertices times kinds (so that a
 # sum of weights has room in its type).
@@ -9,7 +10,8 @@ MOST_VERTICES, MOST_KINDS, MOST_PRODUCT, MOST_BATCHES, MOST_BLOCKS = 67_108_863,
 MOST_WEIGHT = 1 << 40
 
 
-class Limits(NamedTuple):
+@dataclass(frozen=True, repr=False)
+class Limits:
     """How much a store in this process takes at most: vertices and kinds, those of removed edges too, and batches until it begins
     anew. What isn't said is as large as the library has room for: 8,388,606 vertices for one kind, half as many for two, 131,071
     for 64; and 4,294,967,295 batches. With fewer batches it keeps each operation until it begins anew.
@@ -42,14 +44,14 @@ class Limits(NamedTuple):
         within("kinds", self.kinds or 1, 1, MOST_KINDS)
         within("batches", self.batches or 1, 1, MOST_BATCHES)
         within("weight", self.weight or 1, 1, MOST_WEIGHT)
-        if 0 in self:
+        if 0 in vars(self).values():
             raise ValueError(f"a limit is 1 or more, and these are {self}")
         within("vertices", self.vertices or 1, 1, self.most_vertices(self.kinds or 1))
         return self
 
     def __repr__(self) -> str:
         """What was said."""
-        return f"Limits({', '.join(f'{name}={it}' for name, it in self._asdict().items() if it is not None)})"
+        return f"Limits({', '.join(f'{name}={it}' for name, it in vars(self).items() if it is not None)})"
 
     def over(self, vertices: int, kinds: int) -> List[str]:
         """What is more than these limits take, in words; nothing where all has room."""

@@ -3,22 +3,27 @@ from __future__ import annotations
 
 import re
 from array import array
+from dataclasses import dataclass, replace
 from datetime import date, datetime, timezone
 from decimal import Context, Decimal, InvalidOperation
 from fractions import Fraction
 from functools import lru_cache
-from typing import Any, Callable, Iterable, NamedTuple, Optional, Sequence, Union
+from typing import TYPE_CHECKING, Any, Callable, Generic, Iterable, Literal, Optional, Sequence, Union, overload
 
 from . import records
-from .answers import Edge
+from .answers import Edge, T, W
 from .dates import MICROSECOND, all_microseconds, microseconds_of
 from .texts import together
 
 Amount = Union[int, float, Decimal, str]
 Moment = Union[int, str, date]
 EPOCH = datetime(1970, 1, 1, tzinfo=timezone.utc)
-NUMBER, ISO = "number", "iso"
-HALF_EVEN = "half-even"
+Times = Literal["number", "iso"]
+Decimals = Literal["decimal", "float"]
+Rounding = Literal["half-even"]
+NUMBER: Times = "number"
+ISO: Times = "iso"
+HALF_EVEN: Rounding = "half-even"
 _DECIMAL = re.compile(r"[-+]?(?:[0-9]+\.?[0-9]*|\.[0-9]+)(?:[eE]([-+]?[0-9]+))?")
 # How many signs a number may have that is looked at: a longer one is beyond every limit, and takes long.
 MOST_SIGNS = 400
@@ -43,65 +48,118 @@ def _places_of(scale: int) -> Optional[int]:
     return next((it for it in range(64) if 10 ** it % scale == 0), None)
 
 
-class Units(NamedTuple):
-    """What a store's weights and times are counted in.
+@dataclass(frozen=True)
+class Units(Generic[W, T]):
+    """What weights and times are counted in; the store, `load`, `connect` and what else has units take the same ones.
 
-    `weight_scale`: the program's weights are so many parts of one, as 100 for cents; 1 leaves them whole numbers. It divides a
-    power of ten, so that each weight is a decimal number. `times`: "number", or "iso" for dates, which the program has as
-    microseconds since 1970. `decimals`: whether answers have weights as "decimal" (`decimal.Decimal`, exact) or "float".
-    `rounding`: "half-even" where a weight that is no whole number of parts is rounded to the nearest, or of two that are equally
-    near to the even one; else such a weight is refused.
+        Store(units=Units(weight_scale=100, times="iso"))
+
+    `weight_scale`: weights are decimal numbers of so many parts, as 100 for cents; 1 leaves them whole numbers. It divides a
+    power of ten. A weight is an int, a `Decimal`, a float as it is printed, or a text.
+    `times`: "number" for whole numbers, or "iso" for dates from 1970 (also the time of what has none) to 9999. A date is a
+    `datetime`, a `date`, or a text as 2024-05-01 or 2024-05-01T12:00:00.250+02:00, in UTC if it has no zone.
+    `decimals`: answers have weights as "decimal" (`decimal.Decimal`, exact) or "float".
+    `rounding`: "half-even" rounds a weight that is no whole number of parts to the nearest one, or of two that are equally near
+    to the even one. Without it such a weight is refused (`BadWeight`).
+
+    What isn't given is as the store, the file or the server has it; a new store counts whole numbers. Raises `ValueError` for
+    other values.
     """
 
-    weight_scale: int = 1
-    times: str = NUMBER
-    decimals: str = "decimal"
-    rounding: Optional[str] = None
+    weight_scale: Optional[int] = None
+    times: "Optional[Times]" = None
+    decimals: "Decimals" = "decimal"
+    rounding: "Optional[Rounding]" = None
 
-    def checked(self) -> "Units":
-        """Itself; raises `ValueError` where these are no units."""
-        if self.times not in (NUMBER, ISO) or self.decimals not in ("decimal", "float"):
+    if TYPE_CHECKING:
+        scale: int
+        has_dates: bool
+        are_plain: bool
+
+        @overload
+        def __init__(self: "Units[int, int]", weight_scale: Literal[1], times: Literal["number"],
+                     decimals: "Decimals" = ..., rounding: "Optional[Rounding]" = ...) -> None: ...
+
+        @overload
+        def __init__(self: "Units[int, datetime]", weight_scale: Literal[1], times: Literal["iso"],
+                     decimals: "Decimals" = ..., rounding: "Optional[Rounding]" = ...) -> None: ...
+
+        @overload
+        def __init__(self: "Units[float, int]", weight_scale: int, times: Optional[Literal["number"]] = ..., *,
+                     decimals: Literal["float"], rounding: "Optional[Rounding]" = ...) -> None: ...
+
+        @overload
+        def __init__(self: "Units[float, datetime]", weight_scale: int, times: Literal["iso"], decimals: Literal["float"],
+                     rounding: "Optional[Rounding]" = ...) -> None: ...
+
+        @overload
+        def __init__(self: "Units[Decimal, int]", weight_scale: int, times: Optional[Literal["number"]] = ...,
+                     decimals: Literal["decimal"] = ..., rounding: "Optional[Rounding]" = ...) -> None: ...
+
+        @overload
+        def __init__(self: "Units[Decimal, datetime]", weight_scale: int, times: Literal["iso"],
+                     decimals: Literal["decimal"] = ..., rounding: "Optional[Rounding]" = ...) -> None: ...
+
+        @overload
+        def __init__(self: "Units[Any, Any]", weight_scale: Optional[int] = ..., times: "Optional[Times]" = ...,
+                     decimals: "Decimals" = ..., rounding: "Optional[Rounding]" = ...) -> None: ...
+
+        def __init__(self, *given: Any, **named: Any) -> None: ...
+
+    def __post_init__(self) -> None:
+        scale = 1 if self.weight_scale is None else self.weight_scale
+        if self.times not in (None, NUMBER, ISO) or self.decimals not in ("decimal", "float"):
             raise ValueError("times is 'number' or 'iso', decimals is 'decimal' or 'float'")
         if self.rounding not in (None, HALF_EVEN):
             raise ValueError(f"rounding is 'half-even' or None, and not {self.rounding!r}")
-        if not 1 <= self.weight_scale <= records.MOST_WEIGHT or _places_of(self.weight_scale) is None:
-            raise ValueError(f"weight_scale is from 1 to 2^40, and divides a power of ten; {self.weight_scale} doesn't")
-        return self
+        if not 1 <= scale <= records.MOST_WEIGHT or _places_of(scale) is None:
+            raise ValueError(f"weight_scale is from 1 to 2^40, and divides a power of ten; {scale} doesn't")
+        # (they are asked for at each operation)
+        self.__dict__.update(scale=scale, has_dates=self.times == ISO, are_plain=scale == 1 and self.times != ISO)
+
+    @property
+    def are_given(self) -> bool:
+        """Whether any of them says what the store's numbers mean."""
+        return self.weight_scale is not None or self.times is not None
+
+    def or_those(self, other: "Units[Any, Any]") -> "Units[Any, Any]":
+        """These, and of what isn't given here the other's."""
+        return Units(other.weight_scale if self.weight_scale is None else self.weight_scale, self.times or other.times,
+                     self.decimals, self.rounding or other.rounding)
+
+    def settled(self) -> "Units[W, T]":
+        """The same with a scale and times that are given."""
+        return replace(self, weight_scale=self.scale, times=self.times or NUMBER)
 
     def __str__(self) -> str:
-        return f"weight_scale={self.weight_scale}, times={self.times!r}"
-
-    @property
-    def are_plain(self) -> bool:
-        """Whether weights and times are the program's whole numbers."""
-        return self.weight_scale == 1 and self.times == NUMBER
-
-    @property
-    def has_dates(self) -> bool:
-        return self.times == ISO
+        return f"weight_scale={self.scale}, times={self.times or NUMBER!r}"
 
     @property
     def is_decimal(self) -> bool:
         """Whether a part has so many decimals, and all numbers with as many are whole numbers of parts."""
-        return bool(self.weight_scale == 10 ** (_places_of(self.weight_scale) or 0))
+        return bool(self.scale == 10 ** (_places_of(self.scale) or 0))
 
-    def same_as(self, other: "Units") -> bool:
+    def shows_as(self, other: "Units[Any, Any]") -> bool:
+        """Whether weights and times are the same for a user."""
+        return self.same_as(other) and self.decimals == other.decimals
+
+    def same_as(self, other: "Units[Any, Any]") -> bool:
         """Whether the program's numbers mean the same; how decimals are shown is apart."""
-        return self[:2] == other[:2]
+        return self.scale == other.scale and self.has_dates == other.has_dates
 
     # To the program: texts, of which each is the program's number; those that are none raise `ValueError` with the reason.
 
     def weight_to_program(self, text: str) -> str:
         text = together(text.strip()) or text
-        if self.weight_scale == 1 and self.rounding is None:
+        if self.scale == 1 and self.rounding is None:
             return text
         value = _decimal(text.strip())
-        limit = Decimal(records.MOST_WEIGHT) / self.weight_scale
+        limit = Decimal(records.MOST_WEIGHT) / self.scale
         if not -limit <= value <= limit:
-            raise ValueError(f"a weight is from -{limit} to {limit} (2^40 parts, of which one has {self.weight_scale})")
-        parts = Fraction(value) * self.weight_scale
+            raise ValueError(f"a weight is from -{limit} to {limit} (2^40 parts, of which one has {self.scale})")
+        parts = Fraction(value) * self.scale
         if parts.denominator != 1 and self.rounding is None:
-            scale, places = self.weight_scale, len(str(self.weight_scale)) - 1
+            scale, places = self.scale, len(str(self.scale)) - 1
             if scale != 10 ** places:
                 raise ValueError(f"a weight is a whole number of parts, of which one has {scale} (weight_scale)")
             raise ValueError(f"a weight has at most {places} decimal{'s' * (places != 1)} here (weight_scale {scale})")
@@ -110,17 +168,17 @@ class Units(NamedTuple):
     def time_to_program(self, text: str, *, is_end: bool = False) -> str:
         """Of a day that ends a window its last microsecond. 0 is the time of what has none, and the first; the greatest time is
         the end of a window that has none."""
-        if self.times == NUMBER or text in ("0", str(records.MOST_TIME)):
+        if not self.has_dates or text in ("0", str(records.MOST_TIME)):
             return text
         return str(microseconds_of(text, is_end=is_end))
 
     def weights_of(self, texts: Sequence[str]) -> "Sequence[Optional[int]]":
         """The program's weights for many texts; `None` for what is none."""
-        places = _places_of(self.weight_scale) or 0
+        places = _places_of(self.scale) or 0
         found = None
-        if self.weight_scale == 1 and self.rounding is None:
+        if self.scale == 1 and self.rounding is None:
             found = records.whole_numbers(texts, "q", 12)
-        elif self.weight_scale == 10 ** places:
+        elif self.scale == 10 ** places:
             found = _with_places(texts, places)
         return found if found is not None else each_once(self._weight_of, texts)
 
@@ -133,7 +191,7 @@ class Units(NamedTuple):
 
     def times_of(self, texts: Sequence[str]) -> "Sequence[Optional[int]]":
         """The program's times for many texts; `None` for what is none."""
-        found = records.whole_numbers(texts, "Q", 18) if self.times == NUMBER else all_microseconds(texts)
+        found = records.whole_numbers(texts, "Q", 18) if not self.has_dates else all_microseconds(texts)
         return found if found is not None else each_once(self._time_of, texts)
 
     def _time_of(self, text: str) -> Optional[int]:
@@ -146,34 +204,34 @@ class Units(NamedTuple):
     # To the user.
 
     def weight_to_user(self, weight: int) -> Any:
-        if self.weight_scale == 1:
+        if self.scale == 1:
             return weight
         if self.decimals == "float":
-            return weight / self.weight_scale
-        places = _places_of(self.weight_scale) or 0
-        return _EXACT.scaleb(Decimal(weight * 10 ** places // self.weight_scale), -places)
+            return weight / self.scale
+        places = _places_of(self.scale) or 0
+        return _EXACT.scaleb(Decimal(weight * 10 ** places // self.scale), -places)
 
     def time_to_user(self, time: int) -> Any:
-        return time if self.times == NUMBER else EPOCH + MICROSECOND * time
+        return time if not self.has_dates else EPOCH + MICROSECOND * time
 
     def all_weights_to_user(self, weights: Sequence[int]) -> Sequence[Any]:
-        return weights if self.weight_scale == 1 else each_once(self.weight_to_user, weights)
+        return weights if self.scale == 1 else each_once(self.weight_to_user, weights)
 
     def all_times_to_user(self, times: Sequence[int]) -> Sequence[Any]:
-        return times if self.times == NUMBER else each_once(self.time_to_user, times)
+        return times if not self.has_dates else each_once(self.time_to_user, times)
 
     def weights_as_text(self, weights: Sequence[int]) -> "Iterable[str]":
         """Weights as they are printed."""
-        return map(str, weights) if self.weight_scale == 1 else each_once(lambda it: str(self.weight_to_user(it)), weights)
+        return map(str, weights) if self.scale == 1 else each_once(lambda it: str(self.weight_to_user(it)), weights)
 
     def times_as_text(self, times: Sequence[int]) -> "Iterable[str]":
         """Times as they are printed: numbers, or dates as `datetime.isoformat` has them."""
-        return map(str, times) if self.times == NUMBER else each_once(lambda it: str(self.time_to_user(it).isoformat()), times)
+        return map(str, times) if not self.has_dates else each_once(lambda it: str(self.time_to_user(it).isoformat()), times)
 
     @property
     def weights_told(self) -> "Optional[Callable[[Sequence[int]], Sequence[Any]]]":
         """How a column of weights is told, where that isn't as it is."""
-        return None if self.weight_scale == 1 else self.all_weights_to_user
+        return None if self.scale == 1 else self.all_weights_to_user
 
     def edge_to_user(self, weight: int, first: int, recent: int) -> Edge[Any, Any]:
         """The edge, with its weight and times in these units."""
@@ -205,4 +263,4 @@ def _with_places(texts: Sequence[str], places: int) -> "Optional[array[int]]":
     return found if is_right and -most <= min(found) and max(found) <= most else None
 
 
-PLAIN = Units()
+PLAIN: "Units[Any, Any]" = Units()
