@@ -53,7 +53,7 @@ class Rejects(Case):
 
     def test_how_much_of_a_row_is_told(self):
         for size, told in ((199, "x" * 199), (200, "x" * 200), (201, "x" * 200 + " ..")):
-            self.assertEqual(rejects.rejected(3, "why", ["x" * size], ","), (3, "why", told))
+            self.assertEqual(rejects.rejected(3, "why", ["x" * size], ","), Rejected(3, "why", told))
 
     def test_mended_rows_are_loaded_by_the_same_options(self):
         """The file has the feed's own header, delimiter and rows, with the columns that nobody reads too."""

@@ -1,7 +1,6 @@
 """Compaction beside the feed, by itself: when it is due, and what became of it."""
 from __future__ import annotations
 
-import logging
 import threading
 import time
 from contextlib import suppress
@@ -11,7 +10,6 @@ from typing import Callable, Optional
 from .compaction import FileCompacted, Ended, History
 from ..errors import JournalError
 
-LOG = logging.getLogger("misteluk.journal")
 # A base is due behind so many operations, or as many as the last version has edges, where these are more: so no operation costs
 # more than the writing of an edge, and an opening replays no more than that. With a history that is a length of time one is also
 # due behind each part of it.
@@ -51,8 +49,9 @@ class Beside:
             try:
                 self.last, self.fault = self._compact(self.history), None
             except JournalError as fault:
+                import logging  # (here, since few programs need it)
                 self.fault = fault
-                LOG.warning(f"the store's file isn't compacted: {fault}")
+                logging.getLogger("misteluk.journal").warning(f"the store's file isn't compacted: {fault}")
 
     def join(self) -> None:
         """Waits for one that is under way."""
