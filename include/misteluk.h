@@ -57,6 +57,7 @@ enum {
     MISTELUK_NO_KIND = 17,
     MISTELUK_NO_EDGE = 18,
     MISTELUK_BAD_LIMITS = 19,   /* limits of 0 or past their walls, which stand beside misteluk_limits and MISTELUK_MOST_OPERATIONS */
+    MISTELUK_NOT_EMPTY = 20,    /* a desk that is to open with columns has a vertex */
     MISTELUK_BAD_SIZE = 21      /* a struct's `size` is none that it has had in this interface */
 };
 
@@ -251,6 +252,13 @@ uint32_t misteluk_desk_insert_columns(misteluk_desk *desk, const char *kind, siz
     size_t text_length, const uint64_t *ends, size_t ends_length, const uint32_t *sources, size_t sources_length,
     const uint32_t *targets, size_t targets_length, const int64_t *weights, size_t weights_length, const uint64_t *times,
     size_t times_length, misteluk_counts *counts, uint64_t *done);
+/* Starts over, where the desk has no vertex, with the graph that insertions and additions make of the empty one, one after another:
+ * as if they had been applied, but as version 0, in one step, without batches, and in as few blocks as the edges need. A removal
+ * and an expiry are BAD_NUMBER. As after a rebase, nothing is held or retired, and versions that were held answer on. Where a row
+ * is refused, `done` is its place, and else 0, but as it was after BAD_SIZE and NO_HANDLE. The codes of misteluk_batch_columns but
+ * BAD_LIMITS, in its order, and of the first row that is refused NAMES_FULL and KINDS_FULL behind them; NOT_EMPTY before BAD_LENGTH;
+ * BLOCKS_FULL where the edges need more blocks than the desk has. MEMORY is also the code for 2^32 rows. */
+uint32_t misteluk_desk_open_columns(misteluk_desk *desk, const misteluk_columns *columns, uint64_t *done);
 /* Frees each retired block that no held version of this opening needs, and tells how many these were. NO_HANDLE. */
 uint32_t misteluk_desk_collect(misteluk_desk *desk, uint64_t *freed);
 /* Tells the counts. NO_HANDLE. */

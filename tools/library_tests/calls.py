@@ -271,6 +271,15 @@ class Desk(Owner):
         code = self.calls.desk_insert_columns(self.handle, kind, len(kind), *dictionary(names), *told, counts, done)
         return Code(code), done.value, counts
 
+    def open_columns(self, kinds: Sequence[bytes], names: Sequence[bytes],
+                     operations: Sequence[Operation]) -> Tuple[Code, int]:
+        """Starts over with what operations make, each with the places of its kind, source and target among names. Hands back the
+        code and the place that the call writes."""
+        table = [array.array(it, [op[place] for op in operations] or [0]) for place, it in enumerate("BIIIqQ")]
+        done = c_uint64()
+        code = self.library.desk_open_columns(self.handle, columns(kinds, names, table, len(operations)), done)
+        return Code(code), done.value
+
     def collect(self) -> int:
         out = c_uint64()
         must(self.library.desk_collect(self.handle, out))

@@ -10,7 +10,7 @@ enum { VERTICES = 65536, PATH = 30000, BATCH = 4096, STACK = 1 << 20, PROMISED =
 
 static const misteluk_view every = {0, UINT64_MAX, MISTELUK_ANY_KIND};
 static const misteluk_limits limits = {sizeof limits, 3, 2, 2, 10};
-static misteluk_desk desk, small;
+static misteluk_desk desk, small, opened;
 static misteluk_batch batch, filled;
 static misteluk_version version, copy;
 static misteluk_hold hold;
@@ -37,10 +37,11 @@ static void batch_insert(void) { code = misteluk_batch_insert(&batch, "k", 1, "0
 static void batch_add(void) { code = misteluk_batch_add(&filled, "k", 1, "00000", 5, "00001", 5, 1, 1); }
 static void batch_remove(void) { code = misteluk_batch_remove(&filled, "k", 1, "00000", 5, "00001", 5); }
 static void batch_length(void) { code = misteluk_batch_length(&filled, &number); }
+static const misteluk_columns columns = {sizeof columns, "k", 1, &kind_end, 1, text, VERTICES * 5, ends, VERTICES, insertions,
+    VERTICES, first_kind, VERTICES, sources, VERTICES, targets, VERTICES, weights, VERTICES, times, VERTICES};
+
 static void batch_columns(void)
 {
-    misteluk_columns columns = {sizeof columns, "k", 1, &kind_end, 1, text, VERTICES * 5, ends, VERTICES, insertions, VERTICES,
-        first_kind, VERTICES, sources, VERTICES, targets, VERTICES, weights, VERTICES, times, VERTICES};
     done = 0;
     code = misteluk_batch_columns(&filled, &columns, VERTICES, &done);
 }
@@ -54,6 +55,7 @@ static void insert_columns(void)
     code = misteluk_desk_insert_columns(&desk, "k", 1, text, VERTICES * 5, ends, VERTICES, sources, VERTICES, targets, VERTICES,
         weights, VERTICES, times, VERTICES, &counts, &done);
 }
+static void open_columns(void) { code = misteluk_desk_open_columns(&opened, &columns, &done); }
 static void collect(void) { code = misteluk_desk_collect(&desk, &number); }
 static void stat(void) { code = misteluk_desk_stat(&desk, &stat_told); }
 static void hold_last(void) { code = misteluk_desk_hold(&desk, &version, &hold); }
@@ -145,6 +147,9 @@ int main(void)
     for (int is_star = 0; is_star < 2; is_star++) {
         draw(is_star);
         measure("desk_insert_columns", insert_columns);
+        code = misteluk_desk_new(4, 65536, &opened);
+        measure("desk_open_columns", open_columns);
+        misteluk_desk_free(&opened);
     }
     code = misteluk_batch_new(&filled);
     measure("batch_add", batch_add);

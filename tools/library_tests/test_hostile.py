@@ -74,6 +74,7 @@ class Hostile(unittest.TestCase):
             it.desk_begin(desk, batch), it.desk_finish(desk, counts), it.desk_finish(self.desk.handle, counts),
             it.desk_cancel(desk), it.desk_cancel(self.desk.handle), it.desk_collect(desk, number),
             it.desk_stat(desk, interface.Stat()), it.desk_limits(desk, limits(1, 1, 1)),
+            it.desk_open_columns(desk, table, number),
             it.desk_insert_columns(desk, *name, *name, *[where, 1] * 5, counts, number),
             it.desk_hold(desk, none, interface.Hold()), it.desk_release(desk, interface.Hold()), it.desk_rebase(desk),
             it.version_clone(none, interface.Version()), it.version_size(none, interface.Size()),

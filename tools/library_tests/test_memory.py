@@ -86,6 +86,7 @@ CALLS: "dict[str, Callable[[State], object]]" = {
     "desk_finish": lambda it: fields(in_two_steps(it, it.desk.finish)),
     "desk_cancel": lambda it: in_two_steps(it, it.desk.cancel),
     "desk_insert_columns": lambda it: insert_columns(it),
+    "desk_open_columns": lambda it: open_columns(it),
     "desk_hold": lambda it: it.made.append(it.desk.hold()),
     "desk_rebase": lambda it: it.desk.rebase(),
     "version_clone": lambda it: it.made.append(it.held.clone()),
@@ -150,6 +151,23 @@ def insert_columns(state: State) -> object:
     assert done == (3 if code == Code.OK else 0)
     must(code)
     return fields(counts)
+
+
+def open_columns(state: State) -> object:
+    """An opening of a desk of its own: where it is refused, that desk is empty still."""
+    desk = Desk(state.library, 16)
+    try:
+        rows: List[Operation] = [(INSERT, 0, 0, 1, 5, 5), (ADD, 1, 1, 2, 6, 6), (ADD, 0, 0, 1, 7, 7)]
+        code, _ = desk.open_columns([b"q", b"k"], [b"a", b"new", b"names"], rows)
+        version = desk.hold() if code == Code.OK else None
+        told = version and whole(version)
+        if version:
+            desk.release(version)
+        assert told or fields(desk.stat())[:4] == (0, 0, 0, 0)
+        must(code)
+        return told
+    finally:
+        desk.free()
 
 
 class Memory(unittest.TestCase):

@@ -41,6 +41,7 @@ class Phases(unittest.TestCase):
             lambda: it.desk_limits(desk, limits(1, 1, 1)),
             lambda: it.desk_hold(desk, none, interface.Hold()), lambda: it.desk_release(desk, hold),
             lambda: it.desk_rebase(desk), lambda: self.desk.insert_columns(b"k", [b"a"], [(0, 0, 1, 1)])[0],
+            lambda: self.desk.open_columns([b"k"], [b"a"], [(0, 0, 0, 0, 1, 1)])[0],
         ]
 
     def test_a_batch_that_is_finished(self) -> None:
@@ -67,7 +68,7 @@ class Phases(unittest.TestCase):
     def test_while_a_batch_is_ready_the_desk_takes_no_other_call(self) -> None:
         self.desk.begin(self.batch)
         at = self.desk.handle.at
-        self.assertEqual([call() for call in self.calls_of_the_desk()], [Code.NO_HANDLE] * 9)
+        self.assertEqual([call() for call in self.calls_of_the_desk()], [Code.NO_HANDLE] * 10)
         self.assertEqual((self.desk.handle.at, whole(self.held)[0]), (at, whole(self.held)[0]))
         self.assertEqual(fields(self.desk.finish()), (2, 1, 1, 0, 0, 0, 0))
         for call in (self.desk.finish, self.desk.cancel):

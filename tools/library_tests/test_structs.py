@@ -83,6 +83,7 @@ class Structs(unittest.TestCase):
         for size in (0, 8, 104, 105, 160, 167, 169, 176, 1 << 63):
             own = told_with(columns([b"k"], [b"a"], table, 1), size)
             self.assertEqual(it.batch_columns(self.batch.handle, own, 0, done), Code.BAD_SIZE)
+            self.assertEqual(it.desk_open_columns(interface.Desk(), own, done), Code.BAD_SIZE)
             if size != 104:
                 into = told_with(edge_columns(rows, 1), size)
                 self.assertEqual(it.version_row(interface.Version(), view(9), 9, into, count), Code.BAD_SIZE)
@@ -98,9 +99,10 @@ class Structs(unittest.TestCase):
         codes = [call.misteluk_desk_new_within(ctypes.c_uint64(7), it, 16, ctypes.byref(desk)),
                  call.misteluk_desk_limits(ctypes.byref(self.desk.handle), it),
                  call.misteluk_batch_columns(ctypes.byref(self.batch.handle), it, 1, number),
+                 call.misteluk_desk_open_columns(ctypes.byref(self.desk.handle), it, number),
                  call.misteluk_version_row(held, seen, 0, it, number),
                  call.misteluk_version_edges(held, seen, number, it, number)]
-        self.assertEqual(codes, [Code.BAD_SIZE] * 5)
+        self.assertEqual(codes, [Code.BAD_SIZE] * 6)
 
     def test_what_ends_a_handle_ends_it_once(self) -> None:
         desk, batch = Desk(library(), 16), Batch(library())

@@ -2,5 +2,7 @@
 #![tactic(auto)]
 
 mod columns;
+mod opening;
 
 pub use columns::{InsertColumnsError, Insertions, insert_columns};
+pub use opening::{OpenDeskError, open_columns};

@@ -4,9 +4,13 @@ use Rattle.graph_types.specs.{Limits.most_operations, declared.batches.NamedOp.N
 use Rattle.batch_columns.specs.declared.operations.OperationsError.{OperationsError}
 use Rattle.batch_columns.specs.{Dictionaries.Insertions, Operations.{OperationTable, IsExtended, RefusesOperations}}
 use Rattle.desk.specs.Owned.{OwnedView}
-use Rattle.desk_columns.specs.Feeding.{Feeds}
+use Rattle.desk_columns.specs.{Feeding.Feeds, Opening.OpensColumns}
 use Rattle.desk_columns.specs.declared.columns.InsertColumnsError.{InsertColumnsError}
 use Rattle.desk_columns.specs.declared.columns.InsertColumnsError.TheVariants as columns
+use Rattle.desk_columns.specs.declared.opening.OpenDeskError.{OpenDeskError}
+use Rattle.desk_columns.specs.declared.opening.OpenDeskError.TheVariants as openings
+use Rattle.opening_columns.specs.declared.errors.OpenColumnsError.{OpenColumnsError}
+use Rattle.opening_columns.specs.declared.errors.OpenColumnsError.TheVariants as rows
 use Rattle.desk_counts.specs.declared.counts.Counts.{Counts}
 use Rattle.store_handles.specs.declared.held.Held.{Held}
 use Rattle.misteluk_c.specs.declared.appending.OperationColumns.{OperationColumns}
@@ -65,3 +69,29 @@ abbrev pub TellsFeeding : Insertions → OwnedView → Option Held → ℕ → C
 TellsFeeding c old desk code counts done =
     IsSomeAnd (held_desk desk)
     (λ new. (answer : Result (Unit {0}) InsertColumnsError) × (code ≡ insert_columns_code answer) × Feeds old c answer new counts done)
+
+-- what columns that aren't an opening are told by
+abbrev pub refused_rows_code : OpenColumnsError → ℕ
+refused_rows_code rows.BadLength = 4
+refused_rows_code (rows.BadOperation error) = insert_code error
+refused_rows_code rows.NamesFull = 12
+refused_rows_code rows.KindsFull = 13
+refused_rows_code (rows.PoolEmpty needed free) = 14
+refused_rows_code rows.OutOfMemory = 1
+
+abbrev pub open_columns_code : Result (Unit {0}) OpenDeskError → ℕ
+open_columns_code (Ok _) = 0
+open_columns_code (Err openings.NotEmpty) = 20
+open_columns_code (Err (openings.Refused error)) = refused_rows_code error
+
+-- a desk opens anew with columns, or is as it was
+abbrev pub TellsOpening : OperationTable → OwnedView → Option Held → ℕ → ℕ → Type 0
+TellsOpening t old desk code done =
+    IsSomeAnd (held_desk desk)
+    (λ new. (answer : Result (Unit {0}) OpenDeskError) × (code ≡ open_columns_code answer) × OpensColumns t old answer new done)
+
+-- the same of C's struct, where that has its size
+abbrev pub OpensGiven : OperationColumns → Option Held → ℕ → Option Held → ℕ → ℕ → Type 0
+OpensGiven columns old from new done code =
+    MatchBool (columns.size == 168) (Asks (held_desk old) code (λ o. TellsOpening (given_table columns) o new code done))
+    ((code ≡ 21) × (new ≡ old) × (done ≡ from))

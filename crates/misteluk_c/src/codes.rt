@@ -47,6 +47,8 @@ pub(crate) const NO_EDGE: u32 = 18;
 
 pub(crate) const BAD_LIMITS: u32 = 19;
 
+pub(crate) const NOT_EMPTY: u32 = 20;
+
 pub(crate) const BAD_SIZE: u32 = 21;
 
 /// What a call about columns is told by.

@@ -8,6 +8,7 @@
 mod appending;
 mod batches;
 mod codes;
+mod column_opening;
 mod desks;
 mod inserting;
 mod opening;

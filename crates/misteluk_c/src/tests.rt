@@ -5,6 +5,7 @@ use crate::batches::{
     misteluk_batch_add, misteluk_batch_expire, misteluk_batch_free, misteluk_batch_insert,
     misteluk_batch_length, misteluk_batch_new, misteluk_batch_remove,
 };
+use crate::column_opening::misteluk_desk_open_columns;
 use crate::desks::{
     DeskStat, HoldNumbers, misteluk_desk_apply, misteluk_desk_collect, misteluk_desk_free,
     misteluk_desk_hold, misteluk_desk_rebase, misteluk_desk_release, misteluk_desk_stat,
@@ -66,6 +67,25 @@ fn append(alloc: Global, batch: &mut Handle, limit: u32) -> u32 {
     misteluk_batch_columns(alloc, batch, &columns, limit, &mut done)
 }
 
+/// The code of an opening with an insertion and an addition.
+fn open(alloc: Global, desk: &mut Handle) -> u32 {
+    let mut done = 0_u64;
+    let columns = OperationColumns {
+        size: 168,
+        kind_text: b"k",
+        kind_ends: &[1],
+        text: b"ab",
+        ends: &[1, 2],
+        operations: &[0, 1],
+        kinds: &[0, 0],
+        sources: &[0, 1],
+        targets: &[1, 0],
+        weights: &[1, 2],
+        times: &[2, 3],
+    };
+    misteluk_desk_open_columns(alloc, desk, &columns, &mut done)
+}
+
 fn sum(codes: &[u32]) -> u32 {
     let mut all = 0_u32;
     for code in codes {
@@ -96,6 +116,7 @@ fn apply(alloc: Global, batch: &mut Handle, desk: &mut Handle, version: &mut Han
     let ends = [1_u64, 2];
     let codes = [
         misteluk_desk_new(alloc, 1, 16, desk),
+        open(alloc, desk),
         misteluk_desk_apply(alloc, desk, batch, &mut counts),
         misteluk_desk_insert_columns(
             alloc,

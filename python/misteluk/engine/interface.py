@@ -43,6 +43,7 @@ class Code(enum.IntEnum):
     NO_KIND = 17
     NO_EDGE = 18
     BAD_LIMITS = 19
+    NOT_EMPTY = 20
     BAD_SIZE = 21
 
 
@@ -198,6 +199,7 @@ FUNCTIONS: Dict[str, Tuple[Any, List[Any]]] = {
     "desk_cancel": (c_uint32, [POINTER(Desk)]),
     "desk_insert_columns": (c_uint32, [POINTER(Desk), c_void_p, c_size_t, c_void_p, c_size_t, c_void_p, c_size_t, c_void_p,
         c_size_t, c_void_p, c_size_t, c_void_p, c_size_t, c_void_p, c_size_t, POINTER(Counts), POINTER(c_uint64)]),
+    "desk_open_columns": (c_uint32, [POINTER(Desk), POINTER(Columns), POINTER(c_uint64)]),
     "desk_collect": (c_uint32, [POINTER(Desk), POINTER(c_uint64)]),
     "desk_stat": (c_uint32, [POINTER(Desk), POINTER(Stat)]),
     "desk_hold": (c_uint32, [POINTER(Desk), POINTER(Version), POINTER(Hold)]),
@@ -245,6 +247,7 @@ class Library:
     desk_cancel: Callable[[Desk], int]
     desk_insert_columns: Callable[[Desk, Memory, int, Memory, int, Memory, int, Memory, int, Memory, int, Memory, int,
         Memory, int, Counts, c_uint64], int]
+    desk_open_columns: Callable[[Desk, Columns, c_uint64], int]
     desk_collect: Callable[[Desk, c_uint64], int]
     desk_stat: Callable[[Desk, Stat], int]
     desk_hold: Callable[[Desk, Version, Hold], int]

@@ -1,0 +1,14 @@
+pub mod PutMaps
+pub mod EdgeList
+pub mod SeenNames
+pub mod RunLists
+pub mod SlotLists
+pub mod RowLists
+pub mod RowParts
+pub mod RowTaken
+pub mod RowsTaken
+pub mod RowRefusals
+pub mod PoolMarks
+pub mod Assembled
+pub mod Opened
+pub mod NoEdge

@@ -1,0 +1,6 @@
+pub mod Puts
+pub mod Edges
+pub mod Numbers
+pub mod Runs
+pub mod Packed
+pub mod Openings
