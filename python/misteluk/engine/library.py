@@ -16,7 +16,7 @@ from ctypes import c_uint64, sizeof
 from typing import Any, Dict, Iterable, List, Optional, Sequence, Tuple
 
 from . import interface
-from .calling import MOST_AT_ONCE, WORDS, Known, LibraryFlight, check, fill, opened, refusal_of
+from .calling import MOST_AT_ONCE, WORDS, Known, LibraryFlight, check, columns_of, fill, opened, refusal_of
 from .copies import Content, content_of, operations_of
 from .finding import find_library
 from .guard import Guard, Notes, Owned, alone
@@ -307,10 +307,13 @@ class LibraryEngine:
 
     def _copy(self, content: Content, number: int, blocks: int, shape: Limits) -> Opening:
         """A new desk, for which who makes it gives the one in use, with this content as the version of this number, so many
-        blocks and these limits. Its batches are as small as its free blocks want them. Raises `Denied` (PoolEmpty) where even one
-        operation finds none."""
+        blocks and these limits. It opens with the content, where that takes no removal; else it has batches, as small as its free
+        blocks want them. Raises `Denied` (PoolEmpty) where there are too few."""
         opening = self._new(number, blocks, shape)._replace(rebased=self._opening.rebased)
         operations = operations_of(content)
+        if operations.codes and REMOVE not in operations.codes:
+            check(self.library.desk_open_columns(opening.desk.raw, columns_of(operations), c_uint64()))
+            return opening
         at, count = 0, len(operations.codes)
         while at < count:
             part = Operations(columns=operations.some(slice(at, at + min(MOST_AT_ONCE, max(self._stat(opening).free, 1)))))
