@@ -33,7 +33,7 @@ CALLS = {
              "DELETE /v1/sessions/{session}", "POST /v1/sessions/{session}/ask"],
     "feed": ["POST /v1/rows", "POST /v1/feeder", "DELETE /v1/feeder/{feeder}", "POST /v1/feeder/{feeder}/batches/{number}",
              "DELETE /v1/feeder/{feeder}/batches/{number}"],
-    "admin": [],
+    "admin": ["GET /v1/log"],
 }
 
 

@@ -14,6 +14,7 @@ from support import as_soon_as
 import misteluk
 from misteluk.serve import bodies, feeding
 from misteluk.serve.limits import ServerLimits
+from misteluk.serve.people import EVERYONE
 
 SIZE = 8 << 20
 CSV, JSON = "text/csv", "application/json"
@@ -280,10 +281,10 @@ class Budgets(ServeCase):
         self.serve()
         rows, sizes = [("add", "k", "a", "b", "1", "1")] * 10_000, []
         apply = self.server.feeding._apply
-        with mock.patch.object(self.server.feeding, "_apply", lambda part, it: sizes.append(part.size) or apply(part, it)):
+        with mock.patch.object(self.server.feeding, "_apply", lambda part, *rest: sizes.append(part.size) or apply(part, *rest)):
             found = self.server.feeding._records(rows)
             self.assertEqual([len(it) for it in found], [4_096, 4_096, 1_808])
-            self.server.feeding._in_batches(found)
+            self.server.feeding._in_batches(found, EVERYONE)
         self.assertEqual((sizes, len(found)), ([4_096, 4_096, 1_808], 0))
 
     def test_all_or_none(self):

@@ -28,6 +28,8 @@ from ..store import Store
 from ..values.units import Units
 from ..values import records
 
+# What a file of SQLite begins with.
+HEAD = b"SQLite format 3\0"
 # How long one thread of the server may run before another has its turn, in seconds: a feed at full speed else has most of them.
 TURN = 0.0005
 # How many blocks a server's store has at first, if nothing is said; those that aren't used take no memory. Versions that clients
@@ -77,6 +79,15 @@ def add_options(parser: argparse.ArgumentParser) -> None:
                         f"graph are answered at once ({usual.questions})")
 
 
+def can_be_store(path: str) -> bool:
+    """Whether a store's file is there, or could be made: what else is there is nobody's to write into."""
+    try:
+        with open(path, "rb") as file:
+            return file.read(len(HEAD)) in (b"", HEAD)
+    except OSError:
+        return True
+
+
 def take_files(words: argparse.Namespace) -> None:
     """Finds which file is the store's, and which the feed. Raises `ValueError` where they can't be."""
     if words.by is not None and words.file is None:
@@ -87,6 +98,8 @@ def take_files(words: argparse.Namespace) -> None:
         raise ValueError("a feed wants --set or --add")
     if words.path is not None and words.save is not None:
         raise ValueError("a store's file has each batch: --save is for a store that is in memory alone")
+    if words.path is not None and not can_be_store(words.path):
+        raise ValueError(f"{words.path} isn't a store's file, and a feed wants --set or --add")
     if words.path is None and (words.sync is not None or words.history is not None):
         raise ValueError("--sync and --history are for a store's file, which is named first")
 
