@@ -45,7 +45,7 @@ def feed(pipe: IO[str], rate: int, new_names: int, is_over: threading.Event) -> 
 
 def asked(session: Any, chance: random.Random, names: List[str]) -> None:
     vertex = chance.choice(names) if names else "v1"
-    calls: List[Any] = [session.successors, session.levels, session.neighbors, session.successors]
+    calls: List[Any] = [session.successors, session.levels, session.neighbors, session.predecessors]
     chance.choice(calls)(vertex)
 
 
