@@ -136,8 +136,10 @@ class Endless(Case):
         self.assertEqual((store.stat().version, store.stat().edges), (8, 201))
 
     def test_a_copy_without_room(self):
-        """All blocks are used, and the copy's last row is an edge that is set twice: its second operation finds no block."""
-        store = self.store("insert k s0 early 1 1", *(f"insert k s{at} z 1 1" for at in range(13)), blocks=16)
+        """All blocks are used, and the copy's last row is an edge that is set twice: its second operation finds no block. (It is
+        made by batches, since a name has no edge.)"""
+        store = self.store("insert k s0 early 1 1", "insert k s0 gone 1 1", "remove k s0 gone",
+                           *(f"insert k s{at} z 1 1" for at in range(13)), blocks=16)
         for operation in ("insert k s13 z 1 1", "insert k last z 1 1", "insert k last z 1 9", "insert k early z 1 1"):
             self.feed(store, operation)
         old = store.open()
@@ -145,7 +147,7 @@ class Endless(Case):
         store.commit()
         with self.assertRaisesRegex(misteluk.errors.PoolEmpty, "version 5 finds no room in 16 blocks, and nothing was changed"):
             store.compact(old)
-        self.assertEqual((row(store.stat())[:3], store.stat().free, list(old.edges())), ((6, 17, 17), 0, edges))
+        self.assertEqual((row(store.stat())[:3], store.stat().free, list(old.edges())), ((6, 18, 17), 0, edges))
         self.assertEqual(list(store.open().edges()), edges)
 
 

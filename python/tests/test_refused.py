@@ -149,13 +149,17 @@ class Refusals(Case):
                 return Code.MEMORY if left[0] < 0 else real(*given)
             return call
         with smaller_walls(6_400):
-            for name, calls, options, operations in (
-                    ("desk_apply", 0, {}, ["insert k a z 1 9"]), ("desk_rebase", 0, {"limits": Limits(batches=1)}, FIVE),
-                    ("desk_new_within", 0, {}, TWENTY), ("desk_apply", 1, {}, TWENTY), ("desk_apply", 2, {}, TWENTY),
-                    ("desk_rebase", 0, {}, TWENTY), ("desk_hold", 0, {}, TWENTY),
-                    ("desk_new_within", 0, {}, [f"insert z{it} a b 1 1" for it in range(9)])):
-                with self.subTest(name, calls=calls):
-                    store = self.store("insert k a b 1 1", "insert k b c 1 1", **options)
+            # (a copy of a graph that has a name without an edge is made by batches)
+            idle = ["insert k d c 1 1", "remove k d c"]
+            for name, calls, more, options, operations in (
+                    ("desk_apply", 0, [], {}, ["insert k a z 1 9"]),
+                    ("desk_rebase", 0, [], {"limits": Limits(batches=1)}, FIVE), ("desk_new_within", 0, [], {}, TWENTY),
+                    ("desk_open_columns", 0, [], {}, TWENTY), ("desk_apply", 1, [], {}, TWENTY),
+                    ("desk_apply", 1, idle, {}, TWENTY), ("desk_apply", 2, idle, {}, TWENTY),
+                    ("desk_rebase", 0, idle, {}, TWENTY), ("desk_hold", 0, [], {}, TWENTY),
+                    ("desk_new_within", 0, [], {}, [f"insert z{it} a b 1 1" for it in range(9)])):
+                with self.subTest(name, calls=calls, more=more):
+                    store = self.store("insert k a b 1 1", "insert k b c 1 1", *more, **options)
                     self.give(store, operations)
                     sessions = [store.open()]
                     before, of = seen(store, sessions), store._engine.library

@@ -99,6 +99,7 @@ const keep = async () => {
         keepAs(null);
         faults.lost = `Version ${number(mine.version)}, which this page held, is lost: the server began anew, or heard `
             + `nothing from this page for ${mine.idle} s.`;
+        the("hold").disabled = false;  // (who reads this can hold another one at once)
         tell();
         setTimeout(look);
     });
