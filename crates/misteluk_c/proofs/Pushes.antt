@@ -1,5 +1,5 @@
 -- A batch that is shared and can't be copied is left as it was.
-use Rattle.std.proofs.Common.{◌≡◌, ℕ, List, Option, Some, None, IsSome, refl, inl}
+use Rattle.std.proofs.Common.{◌≡◌, List, Option, Some, None, IsSome, refl, inl}
 use Rattle.std.specs.Prelude.{Err}
 use Rattle.graph_types.specs.declared.batches.NamedOp.{NamedOp}
 use Rattle.graph_types.specs.declared.batches.PushError.TheVariants.{OutOfMemory}

@@ -1,5 +1,5 @@
 -- What the calls about a batch that is ready at a desk tell.
-use Rattle.std.specs.Prelude.{◌≡◌, ◌⊎◌, ℕ, List, length, count_by, Option, Some, None, IsSome, IsSomeAnd}
+use Rattle.std.specs.Prelude.{◌≡◌, ◌⊎◌, ℕ, List, length, count_by, Option, Some, None, IsSomeAnd}
 use Rattle.graph_types.specs.{Step.outcomes, declared.batches.NamedOp.NamedOp, declared.refusals.ApplyError.ApplyError}
 use Rattle.graph_version.specs.Versions.{content}
 use Rattle.block_reclamation.specs.Status.{is_free}

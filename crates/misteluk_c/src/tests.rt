@@ -136,10 +136,23 @@ fn apply(alloc: Global, batch: &mut Handle, desk: &mut Handle, version: &mut Han
         misteluk_desk_hold(alloc, desk, version, &mut hold),
         misteluk_desk_release(alloc, desk, &hold),
         misteluk_desk_rebase(alloc, desk),
+        apply_in_phases(alloc, batch, desk, &mut counts),
+    ];
+    sum(&codes)
+}
+
+/// The codes of a batch that is cancelled, and of the next, which is finished.
+fn apply_in_phases(
+    alloc: Global,
+    batch: &mut Handle,
+    desk: &mut Handle,
+    counts: &mut Counts,
+) -> u32 {
+    let codes = [
         misteluk_desk_begin(alloc, desk, batch),
         misteluk_desk_cancel(alloc, desk),
         misteluk_desk_begin(alloc, desk, batch),
-        misteluk_desk_finish(alloc, desk, &mut counts),
+        misteluk_desk_finish(alloc, desk, counts),
     ];
     sum(&codes)
 }

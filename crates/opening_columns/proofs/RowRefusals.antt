@@ -1,5 +1,5 @@
 -- What a row is refused for, as it is told.
-use Rattle.std.proofs.Common.{◌≡◌, ◌≢◌, ◌<◌, ◌∙◌, ℕ, ℤ, pos, Bool, true, false, cond, not, List, Option, Some, None, refl, sym, ap, IsTrue}
+use Rattle.std.proofs.Common.{◌≡◌, ◌<◌, ◌∙◌, ℕ, ℤ, pos, Bool, true, false, cond, not, List, Option, Some, None, refl, sym, ap}
 use Rattle.std.proofs.lemmas.Bool.{le-ltb}
 use Rattle.std.specs.Prelude.{nat_lt, nat_le, slice_index_or, option_map, length}
 use Rattle.graph_types.specs.{Limits.{LimitsView}, Step.{after_all, empty_graph_in}, Valid.{has_names, has_weight, has_time, push_refusal_within}}

@@ -1,4 +1,4 @@
-use Rattle.std.proofs.Common.{◌≡◌, ◌∙◌, ◌<◌, arith}
+use Rattle.std.proofs.Common.{◌≡◌, ◌∙◌, arith}
 use Rattle.desk_columns.specs.Feeding.{columns_of}
 use Rattle.desk_columns.proofs.Inserted.{next_of, several}
 use Rattle.desk_columns.proofs.columns.insert_next.Goals as goal
