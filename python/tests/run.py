@@ -6,6 +6,7 @@ import os
 import re
 import subprocess
 import sys
+import tempfile
 import time
 from typing import Tuple
 
@@ -20,13 +21,19 @@ SERVED = ("against_program", "arrays", "closing", "names", "objects", "read_only
 OF_SERVER = ("starlette", "uvicorn")
 
 
-def run(part: Tuple[str, bool]) -> Tuple[str, float, str]:
-    """Runs a file of tests, also over stores of servers, and gives its name, the seconds that it took, and what it said."""
+def run(part: Tuple[str, bool]) -> Tuple[str, str, str]:
+    """Runs a file of tests, also over stores of servers, and gives its name, the seconds that it took with those of processor
+    time, its children's included, and what it said."""
     begun, (name, is_served) = time.monotonic(), part
-    done = subprocess.run([sys.executable, "-W", "error::ResourceWarning", HERE / name, "-v"], stdout=subprocess.PIPE,
-                          stderr=subprocess.STDOUT, text=True, cwd=HERE,
-                          env={**os.environ, **({"MISTELUK_SERVED": "1"} if is_served else {})})
-    return name[5:-3] + " (served)" * is_served, time.monotonic() - begun, done.stdout
+    env = {**os.environ, **({"MISTELUK_SERVED": "1"} if is_served else {})}
+    with tempfile.TemporaryFile("w+", errors="replace") as said:
+        words = [sys.executable, "-W", "error::ResourceWarning", HERE / name, "-v"]
+        process = subprocess.Popen(words, stdout=said, stderr=subprocess.STDOUT, cwd=HERE, env=env)
+        _, status, used = os.wait4(process.pid, 0)
+        process.returncode = os.waitstatus_to_exitcode(status)
+        said.seek(0)
+        took = f"{time.monotonic() - begun:.0f} s, {used.ru_utime + used.ru_stime:.0f} s of processor time"
+        return name[5:-3] + " (served)" * is_served, took, said.read()
 
 
 def reasons(text: str) -> str:
@@ -52,7 +59,7 @@ def main(*wanted: str) -> int:
     with concurrent.futures.ThreadPoolExecutor(max(2, len(os.sched_getaffinity(0)))) as pool:
         has_server = not set(OF_SERVER) & set(missing)
         parts = [(name, False) for name in names] + [(name, True) for name in names if has_server and name[5:-3] in SERVED]
-        for name, seconds, text in pool.map(run, parts):
+        for name, took, text in pool.map(run, parts):
             ran = re.search(r"(?m)^Ran (\d+) tests? in", text)
             bad = sum(map(int, re.findall(r"(?:failures|errors)=(\d+)", text.splitlines()[-1] if text else "")))
             over_here = sum(map(int, re.findall(r"skipped=(\d+)", text))) - len(re.findall(IN_PROCESS, text))
@@ -61,7 +68,7 @@ def main(*wanted: str) -> int:
             passed += len(re.findall(r"(?m)(?:^|\.\.\. )ok$", text))
             failed, passed_over = failed + bad, passed_over + over_here
             why = f", {over_here} passed over: {reasons(text)}" if over_here else ""
-            print(f"{name}: {seconds:.0f} s{why}" + (f"\n{faults(text)}" if bad else ""))
+            print(f"{name}: {took}{why}" + (f"\n{faults(text)}" if bad else ""))
     if passed_over:
         print(f"{passed_over} tests were passed over")
     print(f"{passed} passed, {failed} failed")
