@@ -14,7 +14,7 @@ import misteluk
 from misteluk import AsyncSession, Edge, Units, connect
 from misteluk.errors import Busy
 from misteluk.serve.page import FILES
-from misteluk.serve.feeding import checked_operations
+from misteluk.serve.checking import checked_operations
 from misteluk.serve.server import Address
 
 

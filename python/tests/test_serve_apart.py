@@ -87,7 +87,7 @@ class Apart(ServeCase):
     def follow(self, path, **options):
         how = {"by": "add", "every": 0.01, "columns": ROWS, **options}
         self.server.feeding.follow(self.server.store.follow(path, **how))
-        return self.server.feeding._following
+        return self.server.feeding.readers.last
 
     def append(self, path, text):
         with open(path, "a") as file:
@@ -164,7 +164,7 @@ class Apart(ServeCase):
         for _ in range(3):
             self.follow(path, until_end=True)
             as_soon_as(lambda: self.feed()["state"] == "ended")
-            as_soon_as(lambda: not self.server.feeding._thread.is_alive())
+            as_soon_as(lambda: not self.server.feeding.readers.are_alive)
         self.assertEqual((children(os.getpid()), self.feed()["rows"]), ([], 3))
         as_soon_as(lambda: open_count(os.getpid()) <= before)
 

@@ -125,15 +125,19 @@ class Posts(JournalServed):
             self.assertEqual(self.ask("GET", "/v1/edges")[0], 200)
 
 
-class Followed(JournalServed):
+class FollowedCase(JournalServed):
     """Each row has an edge of its own, to whose weight it adds 1: a row that went in twice has 2."""
 
     def write(self, first, last, path=None):
         with open(path or self.feed, "a", encoding="ascii") as file:
             file.writelines(f"s{it % 97},t{it},1,{it}\n" for it in range(first, last))
 
-    def follow(self):
-        return self.begin(str(self.feed), "--add", *COLUMNS, "--every", "10ms", "--batch", "50")
+    def follow(self, *words):
+        return self.begin(str(self.feed), "--add", *COLUMNS, "--every", "10ms", "--batch", "50", *words)
+
+    def fed(self):
+        """What the server tells of its feed."""
+        return self.ask("GET", "/v1/stat")[1]["feed"]
 
     def has(self, count, server=None):
         """Waits until so many rows are in, each once."""
@@ -147,6 +151,8 @@ class Followed(JournalServed):
         server.send_signal(how)
         server.wait(30)
 
+
+class Followed(FollowedCase):
     def test_a_restart_goes_on(self):
         chance, count = random.Random(2), 0
         for how in (signal.SIGKILL, signal.SIGTERM, signal.SIGKILL):

@@ -22,7 +22,7 @@ class Rejects(ServeCase):
     def follow(self, path, **options):
         how = {"by": "add", "every": 0.01, "columns": ROWS, **options}
         self.server.feeding.follow(self.server.store.follow(path, **how))
-        return self.server.feeding._following
+        return self.server.feeding.readers.last
 
     def append(self, path, text):
         with open(path, "a") as file:

@@ -12,7 +12,7 @@ from serving import HAS_PACKAGES, ServeCase
 from misteluk import Degree, Units, connect
 from misteluk.engine.operations import row_of
 from misteluk.serve import answers, wire
-from misteluk.serve.feeding import _seen_rows
+from misteluk.serve.checking import seen_rows
 from misteluk.serve.limits import ServerLimits
 from misteluk.values.names import NameTable
 
@@ -81,7 +81,7 @@ class Rows(ServeCase):
             times = ["0", "3", "9" * 18] if not units else ["2024-05-01", "2024-05-01T12:00:00", "0"]
             rows = [[word, kind, "a", f"b{at}", weight, time] for word in ("add", "insert") for kind in ("k", "l")
                     for at, weight in enumerate(weights) for time in times]
-            found = _seen_rows(rows, terms)
+            found = seen_rows(rows, terms)
             self.assertEqual(found, [row_of(terms.turned([{"add": "a", "insert": "i"}[it[0]], *it[1:]])[0]) for it in rows])
             records = [it for part in feeding._records(rows) for it in part]
             self.assertEqual((records, list(self.server.store.kinds)), (found, ["k", "l"]))
@@ -90,7 +90,7 @@ class Rows(ServeCase):
                          ["add", "k", "", "b", "5", times[0]], ["add", "k", "a b", "b", "5", times[0]],
                          ["add", "k", "~~AAAAAAAAAAAAAAAAAAAA", "b", "5", times[0]], ["add", "k", "a", "b", "5", "-1"],
                          ["add", "k", "a", "b", str((1 << 40) + 1), times[0]], ["add", "k", "a", "b", "5"], []):
-                self.assertIsNone(_seen_rows([*rows, more], terms), more)
+                self.assertIsNone(seen_rows([*rows, more], terms), more)
             self.assertEqual(len(terms.names), 0)
 
 

@@ -11,6 +11,7 @@ from misteluk.serve.board import Board, Full
 from misteluk.serve.feeding import Feeding
 from misteluk.serve.keeping import Keeper
 from misteluk.serve.limits import ServerLimits
+from misteluk.serve.posts import WaitingPost
 
 
 class Versions(Case):
@@ -29,6 +30,12 @@ class Versions(Case):
 
     def told(self):
         return [(it.version, it.clients) for it in self.board.held()]
+
+    @staticmethod
+    def post(feeding, rows):
+        waiting = WaitingPost(rows)
+        feeding.posts.put(waiting)
+        return feeding.rows(waiting)
 
     def test_clients_of_one_version_share_it(self):
         leases = [self.board.lease() for _ in range(20)]
@@ -92,7 +99,7 @@ class Versions(Case):
                 told.append((session.version, [it for it, _ in self.told()]))
             return found
         with mock.patch.object(self.at._engine, "fly", fly):
-            Feeding(self.board, ServerLimits()).rows([["add", "k", f"s{it}", "t", "1", "1"] for it in range(5_000)])
+            self.post(Feeding(self.board, ServerLimits()), [["add", "k", f"s{it}", "t", "1", "1"] for it in range(5_000)])
         self.assertEqual((told, [it for it, _ in self.told()]), ([(1, [1]), (1, [1])], [3]))
 
     def test_who_asks_isn_t_silent(self):
@@ -164,7 +171,7 @@ class Versions(Case):
     def test_the_rate(self):
         feeding = Feeding(self.board, ServerLimits(), self.clock)
         self.clock.now = 20
-        feeding.rows([["add", "k", "a", f"t{it}", "1", "1"] for it in range(50)])
+        self.post(feeding, [["add", "k", "a", f"t{it}", "1", "1"] for it in range(50)])
         self.assertEqual((feeding.told()["rows"], feeding.told()["rows_a_second"]), (50, 5.0))
         self.clock.now = 40
         self.assertEqual(feeding.told()["rows_a_second"], 0)

@@ -7,12 +7,13 @@ import gc
 import os
 import signal
 import sys
-from typing import Any, Dict, Iterator, Optional, Tuple
+from typing import Any, Dict, Optional, Tuple
 
 from .file import history
 from ..feeds.feed import STANDARD_INPUT
 from ..feeds.following import Following
-from ..feeds.steps import FeedMark
+from ..feeds.opening import form_of
+from ..feeds.rotation import Succession
 from ..journal.tables import SYNCS
 from ..serve import log
 from ..serve.door import raise_descriptors
@@ -180,26 +181,54 @@ def store_of(words: argparse.Namespace, keeper: Optional[Keeper]) -> Tuple[Store
 
 def follow(server: Server, words: argparse.Namespace, how: Dict[str, Any]) -> None:
     """Has the feed go in that is named."""
-    if words.file is not None:
-        feeds = feeds_of(server.store, words, how)
-        server.feeding.follow(next(feeds), lambda: next(feeds, None))
+    if words.file is None:
+        return
+    if words.path is None or words.file == STANDARD_INPUT or not os.path.isfile(words.file):
+        server.feeding.follow(followed(server.store, words.file, words, how))
+        return
+    files = FilesInTurn(server.store, words, how)
+    first = files.next()
+    if first is not None:
+        server.feeding.follow(first, files)
 
 
-def feeds_of(store: Store[Any, Any], words: argparse.Namespace, how: Dict[str, Any]) -> Iterator[Following]:
-    """The feed that is named. Where the store has a file, first the rest of one that was rotated away before all of it was in,
-    and then each one that takes the place of one that was read to its end."""
-    pace = {"every": words.every, "keep": words.keep, "ahead": words.ahead, "batch": words.batch, "skip_bad": words.skip_bad,
-            "rejects": words.rejects}
-    is_log = words.path is not None and words.file != STANDARD_INPUT and os.path.isfile(words.file)
-    while True:
-        rest = FeedMark.of(words.file, os.stat(words.file)).rest(store._engine.feeds) if is_log else None
-        if rest is not None:
-            log.state("rotated", f"{words.file} is another file now: the rest of the one before goes in first, from {rest}")
-        found = store.follow(rest or words.file, progress=False, until_end=rest is not None, **pace, **how)
-        found.recipe = found.recipe._replace(rotates=is_log)
-        yield found
-        if not is_log:
-            return
+class FilesInTurn:
+    """What a store that has a file follows: the file that is named, first what is left of the one that stood there before, and
+    then each one that takes its place."""
+
+    def __init__(self, store: Store[Any, Any], words: argparse.Namespace, how: Dict[str, Any]) -> None:
+        self._store, self._words = store, words
+        self._how = {**how, "format": how.get("format") or form_of(words.file, how.get("encoding", "utf-8"))}
+        self._files = Succession(words.file, store._engine.feeds)
+        if self._files.is_another:
+            before = ("isn't there any more: what wasn't in of it is lost" if self._files.before is None else
+                      f"is {self._files.before}, and what isn't in of it goes in first")
+            log.state("rotated", f"{words.file} is another file than the one that was followed last. That one {before}. A file "
+                      "that stood there meanwhile, if there was one, isn't read")
+
+    def next(self) -> Optional[Following]:
+        """The next one, for which this waits; `None` once it is closed."""
+        file = self._files.next()
+        if file is None:
+            return None
+        with file.file:  # (the one that follows it has it open by itself)
+            found = followed(self._store, file, self._words, self._how)
+        if found.mark is not None:
+            self._files.took(found.mark.turn)
+        return found
+
+    def close(self) -> None:
+        self._files.close()
+
+
+def followed(store: Store[Any, Any], feed: Any, words: argparse.Namespace, how: Dict[str, Any]) -> Following:
+    """A feed that goes on where the store's file has it in to."""
+    found = store.follow(feed, progress=False, every=words.every, keep=words.keep, ahead=words.ahead, batch=words.batch,
+                         skip_bad=words.skip_bad, rejects=words.rejects, **how)
+    if found.reads_again:
+        log.state("read again", f"{found.name} is read from its begin, and what is in is passed over: in this encoding no byte "
+                  "says where a line begins")
+    return found
 
 
 def tell(server: Server, words: argparse.Namespace) -> None:

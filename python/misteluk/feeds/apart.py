@@ -10,13 +10,13 @@ import sys
 import threading
 import time
 from types import TracebackType
-from typing import Any, Iterator, NamedTuple, Optional, Sequence, Type
+from typing import Any, Callable, Iterator, NamedTuple, Optional, Sequence, Type
 
 from . import parcels
 from .following import Following
 from .parcels import Parcel
 from .pipes import how_ended, widen
-from .reader import Wanted
+from .reader import AT_ITS_END, AT_ONCE, Wanted
 from .rejects import Lines, Rejected
 from .steps import FeedPlace
 from ..engine.operations import Encoded, Numbered, Operations
@@ -60,7 +60,9 @@ class Apart(Iterator[Applied]):
         self.last_bad: Optional[Rejected] = None
         self.place = following.resumed
         following.close()
-        self.ended_half = self._is_stopped = False
+        self.ended_half = self._is_stopped = self._ends = self.is_left = False
+        # What is called once another file took the place of this one (see `Following.on_left`).
+        self.on_left: Callable[[], None] = lambda: None
         self.killed, self._in_vain = 0, 0
         self._lock, self._is_over = threading.Lock(), threading.Event()
         # Since when a batch is waited for; nothing while one is applied.
@@ -93,6 +95,8 @@ class Apart(Iterator[Applied]):
             os.close(said)
             os.close(theirs)
         self._tell(pickle.dumps(Wanted(self.name, descriptor, self._recipe, self._terms.units, self.place)))
+        if self._ends:
+            self._tell(AT_ITS_END)
 
     def _give_back(self) -> None:
         """Closes its ends of the pipes."""
@@ -117,6 +121,9 @@ class Apart(Iterator[Applied]):
             head = parcel.head
             if "text" in head:
                 raise ReadFault(head["word"], head["text"])
+            if "left" in head:
+                self._leave()
+                continue
             if "place" not in head:
                 self.ended_half = head["is_half"]
                 raise StopIteration
@@ -126,6 +133,12 @@ class Apart(Iterator[Applied]):
             self.last_bad = self.last_bad if head["last_bad"] is None else Rejected(*head["last_bad"])
             if found is not None:
                 return found
+
+    def _leave(self) -> None:
+        """Takes in that another file took the place of this one, once. (Another reader says so again.)"""
+        if not self.is_left:
+            self.is_left = True
+            self.on_left()
 
     def _keep(self, skipped: Optional[Sequence[Any]]) -> None:
         """Keeps rows that were skipped, before those that came with them go in. A feed whose rows aren't kept ends."""
@@ -160,7 +173,7 @@ class Apart(Iterator[Applied]):
     def _applied(self, parcel: Parcel) -> Applied:
         """Applies a batch."""
         head, ledger = parcel.head, self.store._ledger
-        place = FeedPlace(*head["place"])
+        place = FeedPlace(*head["place"])._replace(rejects=0 if self._rejects is None else self._rejects.size)
         kind_text, kind_ends, text, ends, codes, kinds, sources, targets, weights, times = parcel.columns
         for name, told in head["texts"].items():
             if self._terms.names.to_program(told) != name:
@@ -188,8 +201,9 @@ class Apart(Iterator[Applied]):
 
     @property
     def is_replaced(self) -> bool:
-        """Whether the path of a file has another one by now, or none: what comes in there isn't read."""
-        if self._begin is None or self._is_input or self._file < 0:
+        """Whether the path of a file has another one by now, or none: what comes in there isn't read. (It is where those that
+        take its place are followed too.)"""
+        if self._begin is None or self._is_input or self._file < 0 or self._recipe.path is not None:
             return False
         try:
             return not os.path.samestat(os.stat(self.name), os.fstat(self._file))
@@ -197,6 +211,10 @@ class Apart(Iterator[Applied]):
             return True
         except OSError:  # (nobody knows)
             return False
+
+    @property
+    def has_ended(self) -> bool:
+        return self._is_over.is_set()
 
     @property
     def told(self) -> str:
@@ -207,8 +225,14 @@ class Apart(Iterator[Applied]):
         """Has what was read go in, and then ends the steps. Any thread may call it."""
         with self._lock:
             self._is_stopped = True
-            self._tell(b"!")
+            self._tell(AT_ONCE)
         threading.Thread(target=self._watch, daemon=True).start()
+
+    def end(self) -> None:
+        """Has what the file has by now go in, and then ends the steps. Any thread may call it."""
+        with self._lock:
+            self._ends = True
+            self._tell(AT_ITS_END)
 
     def _watch(self) -> None:
         """Kills the process where it is to stop, and nothing comes of it for long."""

@@ -14,13 +14,14 @@ from ..errors import BadRows, FeedFault, NoAnswer, PoolEmpty, Refused, StoreErro
 from .advice import Reading, advise
 from .calls import Calls
 from .feed import Block, Feed, Path, part_of, turned
-from .growing import DelimitedRows, Growing, Incoming, Opened, Rows, SnapRows
+from .growing import MOST_READ, Begin, DelimitedRows, Growing, Incoming, Opened, Rows, SnapRows
 from .surveys import Count, must_be_way
 from .opening import ReadAs, form_of
 from ..engine.guard import noting
 from ..engine.operations import EXPIRY
 from .progress import Progress
 from .rejects import Bin, Lines, Rejected, Rejects
+from .rotation import Standing, must_be_in
 from .spans import Span, ahead_time, kept_time, seconds_of
 from .steps import FeedMark, FeedPlace, Followed, Pace, Recipe
 from .terms import Terms
@@ -35,9 +36,17 @@ def _is_interrupted() -> bool:
 
 
 class Keeps(Protocol):
-    """What keeps rows that were skipped, as a file does."""
+    """What keeps rows that were skipped, as a file does, and how long that is."""
+
+    size: int
 
     def append(self, lines: Lines) -> None: ...
+
+    def go_on(self, size: int) -> None: ...
+
+
+def _nothing() -> None:
+    pass
 
 
 class Following(Iterator[Followed]):
@@ -54,7 +63,9 @@ class Following(Iterator[Followed]):
         self._incoming, self._source, self._count, self._pace = incoming, incoming.source, count, recipe.pace
         self.recipe, self.rejects = recipe, rejects
         # What is called where rows were skipped and none is pending, with which this would be told.
-        self.on_skipped: Callable[[], None] = lambda: None
+        self.on_skipped: Callable[[], None] = _nothing
+        # What is called once another file took the place of this one at the recipe's path, and all is in that this one had then.
+        self.on_left: Callable[[], None] = _nothing
         # Rows that were read, the lines of those that are pending, and since when the first of these is.
         self._blocks: Deque[Block] = deque()
         self._lines: List[int] = []
@@ -84,23 +95,35 @@ class Following(Iterator[Followed]):
     @property
     def place(self) -> FeedPlace:
         """How far it is in."""
+        begin, rejects = self._incoming.begin_before(self._done), 0 if self.rejects is None else self.rejects.size
         return FeedPlace(self._in, self._line, self._newest, self._source.place, self._source.mark, self._done, self._count.bad,
-                         bool(self._blocks) or self._incoming.is_half)
+                         bool(self._blocks) or self._incoming.is_half, *begin, rejects)
 
     def go_on(self, place: FeedPlace) -> None:
-        """Passes over what is in to a place, before the first step. The file is read from where the reading began."""
+        """Passes over what is in to a place, before the first step."""
         self._in, self._line, self._newest, self._done, self._count.bad = *place[:3], place.done, place.bad
         self._source.was_read(place.read, place.mark)
-        self._incoming.rows.passed = place.done
+        self._incoming.go_on(place.done, Begin(place.lines, place.byte))
 
-    def resume(self, feeds: Mapping[str, str]) -> None:
+    def resume(self, feeds: Mapping[str, str], after: Optional[int]) -> None:
         """Goes on where a store's file has the feed in to, which knows these. Raises `FeedFault` where the path has another file
-        by now, and the one before isn't in."""
-        if self.begin is not None:
-            self.mark = FeedMark.of(self.name, os.fstat(self.descriptor), self.begin)
-            self.resumed = self.mark.known(feeds)
-            if self.resumed.done:
-                self.go_on(self.resumed)
+        by now, and the one before isn't in, unless this one comes after that in its turn."""
+        if self.begin is None:
+            return
+        mark = FeedMark.of(self.name, os.fstat(self.descriptor), self.begin)
+        self.mark = mark.in_turn(mark.known(feeds), lambda it: self._source.has(it.read, it.mark), after or 0)
+        self.resumed = self.mark.place
+        if after is None and not self.resumed.done:
+            must_be_in(self.mark, feeds)
+        if self.resumed.done:
+            self.go_on(self.resumed)
+            if self.rejects is not None:
+                self.rejects.go_on(self.resumed.rejects)
+
+    @property
+    def reads_again(self) -> bool:
+        """Whether what is in is read again, since it isn't known where a row begins."""
+        return not self.resumed.byte and self.resumed.read > MOST_READ
 
     @property
     def terms(self) -> Terms:
@@ -151,6 +174,10 @@ class Following(Iterator[Followed]):
         """Has what was read go in, and then ends the steps."""
         self._is_stopped = True
         self._source.ring()
+
+    def end(self) -> None:
+        """Has what a file has by now go in, and then ends the steps."""
+        self._source.end()
 
     def close(self) -> None:
         """Gives the file back. Rows that were read and aren't in yet stay pending in the store."""
@@ -216,6 +243,9 @@ class Following(Iterator[Followed]):
             self._blocks.extend(self._incoming.blocks())
         except (StoreError, ValueError, OSError) as fault:
             self._ending = fault
+        if self._source.is_left and not (self._blocks or self._lines or self._ending):
+            left, self.on_left = self.on_left, _nothing
+            left()
 
     def _fill(self) -> None:
         """Makes rows operations that are pending, as many as the batch has room for."""
@@ -342,9 +372,10 @@ def follow(store: "Store[Any, Any]", feed: Union[Path, Opened], *, by: str, ever
     turned(Feed("", ()), names=how.names)
     place = feed if isinstance(feed, (str, os.PathLike)) or rejects is None else feed.fileno()
     kept_rows = None if rejects is None else Rejects(rejects, how.encoding, place)
-    following = following_of(store, feed, Recipe(form, by, batch, until_end, pace), terms, progress, kept_rows)
+    path, after = (feed.path, feed.after) if isinstance(feed, Standing) else (None, None)
+    following = following_of(store, feed, Recipe(form, by, batch, until_end, pace, path), terms, progress, kept_rows)
     try:
-        following.resume(store._engine.feeds)
+        following.resume(store._engine.feeds, after)
     except FeedFault:
         following.close()
         raise
@@ -355,7 +386,7 @@ def following_of(store: "Store[Any, Any]", feed: Union[Path, Opened], recipe: Re
                  progress: Optional[bool], rejects: Optional[Keeps] = None) -> Following:
     """A feed that is followed into a store by a recipe. See `follow`."""
     how = recipe.pace.how
-    source = Growing(feed, how.encoding, recipe.until_end, recipe.rotates)
+    source = Growing(feed, how.encoding, recipe.until_end, recipe.path)
     rows: Rows = (SnapRows(source.name, how.columns.default_kind, how.third) if recipe.form == "snap" else
                   DelimitedRows(source.name, how.columns, how.delimiter, how.header))
     store._ledger.take_terms(terms)

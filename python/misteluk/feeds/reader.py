@@ -26,6 +26,10 @@ from .terms import Terms
 from ..values.units import Units
 
 
+# What is said to a reader.
+AT_ONCE, AT_ITS_END = b"!", b"."
+
+
 class Wanted(NamedTuple):
     """What is to be read, by its name and descriptor, and how; and how much of it is in by now."""
 
@@ -54,10 +58,15 @@ class Outbox:
         # From which line on what is sent next is, and rows that were skipped.
         self.first = 1
         self._skipped: List[Lines] = []
+        # (who writes these knows how long their file is)
+        self.size = 0
 
     def append(self, lines: Lines) -> None:
         """Has rows that were skipped go out with the next that does."""
         self._skipped.append(lines)
+
+    def go_on(self, size: int) -> None:
+        """Nothing: it was done there."""
 
     @property
     def pending(self) -> List[Row]:
@@ -74,7 +83,7 @@ class Outbox:
     def _head(self, following: Following) -> Dict[str, Any]:
         """How far the feed is in, and what was skipped."""
         skipped, self._skipped = self._skipped, []
-        lines = Lines(skipped[0].first, skipped[0].header, "".join(it.rows for it in skipped)) if skipped else None
+        lines = Lines(skipped[0].first, skipped[0].header, [row for it in skipped for row in it.rows]) if skipped else None
         place, first = following.place, self.first
         self.first = place.done + 1
         last_bad = None if following.last_bad is None else list(vars(following.last_bad).values())
@@ -83,6 +92,10 @@ class Outbox:
     def skip(self, following: Following) -> None:
         """Sends that rows were skipped, where no batch is there to be sent."""
         parcels.send(self._descriptor, parcels.packed(self._head(following)))
+
+    def leave(self) -> None:
+        """Sends that another file took the place of the one that is read."""
+        parcels.send(self._descriptor, parcels.packed({"left": True}))
 
     def send(self, following: Following) -> None:
         """Sends a batch with how far the feed is in by it, with the kinds and texts of ids that are new."""
@@ -101,7 +114,7 @@ class Outbox:
 def read(following: Following, outbox: Outbox) -> None:
     """Sends what a feed has, to its end or until it is stopped, and what ended it."""
     outbox.first = following.place.done + 1
-    following.on_skipped = lambda: outbox.skip(following)
+    following.on_skipped, following.on_left = lambda: outbox.skip(following), outbox.leave
     try:
         for _ in following:
             outbox.send(following)
@@ -128,8 +141,8 @@ def run(following: Following, outbox: Outbox) -> None:
 
 
 def main(said: int, descriptor: int) -> None:
-    """The process: what it is to read stands in what is said first. What is said behind that has it stop; where nobody can say
-    anything any more it ends at once. Signals are for the process that began it."""
+    """The process: what it is to read stands in what is said first. What is said behind that has it stop, or end where the file
+    does; where nobody can say anything any more it ends at once. Signals are for the process that began it."""
     for it in (signal.SIGINT, signal.SIGTERM):
         signal.signal(it, signal.SIG_IGN)
     gc.set_threshold(100_000)  # (rows make no cycles, and it would look through them again and again)
@@ -141,6 +154,6 @@ def main(said: int, descriptor: int) -> None:
         following.go_on(wanted.place)
         # (by a thread that no signal interrupts, whose steps take less time)
         threading.Thread(target=run, args=(following, outbox), daemon=True).start()
-        while file.read(1):
-            following.stop()
+        for word in iter(lambda: file.read(1), b""):
+            following.end() if word == AT_ITS_END else following.stop()
     os._exit(0)

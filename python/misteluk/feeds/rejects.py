@@ -28,11 +28,11 @@ class Rejected:
 
 
 class Lines(NamedTuple):
-    """Rows that were skipped as lines of CSV, the line of the first of them, and the header that they stand below, or nothing."""
+    """Rows that were skipped, each as CSV; the line of the first of them; and the header that they stand below, or nothing."""
 
     first: int
     header: str
-    rows: str
+    rows: Sequence[str]
 
 
 def written(fields: Sequence[Any], sign: str) -> str:
@@ -63,7 +63,7 @@ class Bin:
     def emptied(self) -> Optional[Lines]:
         """What there is, which is nobody's any more then."""
         rows, self._rows = self._rows, []
-        return Lines(self._first, self._header, "".join(rows)) if rows else None
+        return Lines(self._first, self._header, rows) if rows else None
 
 
 class Rejects:
@@ -81,13 +81,44 @@ class Rejects:
                     os.stat(self.path), os.stat(0 if feed == STANDARD_INPUT else feed)):
                 raise ValueError(f"{self.path} is the feed itself: have the rows that are skipped written to another file")
         self._is_begun = False
-        os.close(self._opened())
+        # How long the file is behind the rows that were written last; and what it has behind those that are in for good.
+        self.size, self._again, self._at = 0, b"", 0
+        file = self._opened()
+        self._see(file)
+        os.close(file)
 
     def _opened(self) -> int:
         return os.open(self.path, os.O_WRONLY | os.O_APPEND | os.O_CREAT | os.O_CLOEXEC, 0o666)
 
+    def _see(self, file: int) -> None:
+        found = os.fstat(file)
+        self.size = found.st_size if stat.S_ISREG(found.st_mode) else 0
+
+    def go_on(self, size: int) -> None:
+        """Passes over rows that the file has already behind so many bytes, by a process that was killed before they were in for
+        good: they come again, in their order. (Who moved the file away has one that is shorter, of which all is looked at.)"""
+        with suppress(OSError), open(self.path, "rb") as file:
+            if self.size:
+                file.seek(size if size <= self.size else 0)
+                self._again, self._at = file.read(), 0
+
+    def _not_there(self, rows: Sequence[str]) -> Sequence[str]:
+        """The rows that the file doesn't have yet: behind the first of them all are new."""
+        end = self._bytes("\n", True)
+        for count, row in enumerate(rows if self._again else ()):
+            line = self._bytes(row, True)
+            found = self._again.find(line, self._at)
+            if found < 0 or found and self._again[max(found - len(end), 0):found] != end:
+                self._again = b""
+                return rows[count:]
+            self._at = found + len(line)
+        return [] if self._again else rows
+
     def append(self, lines: Lines) -> None:
         """Writes rows, all or none. Raises `FeedFault` where it can't."""
+        lines = lines._replace(rows=self._not_there(lines.rows))
+        if not lines.rows:
+            return
         try:
             file = self._opened()
             try:
@@ -102,14 +133,15 @@ class Rejects:
 
     def _append(self, file: int, lines: Lines) -> None:
         if not stat.S_ISREG(os.fstat(file).st_mode):
-            self._write(file, self._bytes(lines.header * (not self._is_begun) + lines.rows, self._is_begun))
+            self._write(file, self._bytes(lines.header * (not self._is_begun) + "".join(lines.rows), self._is_begun))
             self._is_begun = True
             return
         fcntl.flock(file, fcntl.LOCK_EX)  # (another feed may have the same file)
         size = os.fstat(file).st_size
         ahead = lines.header if not size else "" if self._is_begun else self._from_before(lines)
         try:
-            self._write(file, self._bytes(ahead + lines.rows, size > 0))
+            self._write(file, self._bytes(ahead + "".join(lines.rows), size > 0))
+            self._see(file)
         except OSError:
             os.ftruncate(file, size)
             raise

@@ -4,11 +4,10 @@ from __future__ import annotations
 import json
 import os
 from dataclasses import dataclass
-from typing import Any, List, Mapping, NamedTuple, Optional, Tuple
+from typing import Any, Callable, List, Mapping, NamedTuple, Optional, Sequence, Tuple
 
 from .opening import ReadAs
 from .rejects import Rejected
-from ..errors import FeedFault
 from ..values.answers import Commit
 
 
@@ -48,21 +47,22 @@ class Pace(NamedTuple):
 
 
 class Recipe(NamedTuple):
-    """How a feed is followed: its form, how its rows go in and how many at once, whether its end is that of all, and whether it
-    ends where another file takes its place."""
+    """How a feed is followed: its form, how its rows go in and how many at once, whether its end is that of all, and the path at
+    which another file may take its place, where that one is followed too."""
 
     form: str
     by: str
     batch: int
     until_end: bool
     pace: Pace
-    rotates: bool = False
+    path: Optional[str] = None
 
 
 class FeedPlace(NamedTuple):
     """How far a feed is in: how many rows, to which line, their newest time in the program's times, how many bytes of the file
-    were read by then, and a mark of these; to which line rows are in or were skipped, and how many of them were; and whether more
-    was read than is in."""
+    were read by then, and a mark of these; to which line rows are in or were skipped, and how many of them were; whether more
+    was read than is in; where a row begins that isn't behind that line, as how many lines are before it and its byte; and how
+    long the file was by then that has the rows that were skipped."""
 
     rows: int = 0
     line: int = 0
@@ -72,16 +72,20 @@ class FeedPlace(NamedTuple):
     done: int = 0
     bad: int = 0
     left: bool = False
+    lines: int = 0
+    byte: int = 0
+    rejects: int = 0
 
 
 class FeedMark(NamedTuple):
-    """Which feed is in to a place: the file's path, its device and number there, and where the reading of it began. A store's
-    file has it with each batch, so that a restart goes on there."""
+    """Which feed is in to a place: the file's path, its device and number there, and where the reading of it began; and the how
+    manieth file it is that was followed by this path. A store's file has it with each batch, so that a restart goes on there."""
 
     path: str
     file: Tuple[int, int]
     begin: int
     place: FeedPlace = FeedPlace()
+    turn: int = 0
 
     @staticmethod
     def of(path: str, found: os.stat_result, begin: int = 0) -> "FeedMark":
@@ -93,27 +97,22 @@ class FeedMark(NamedTuple):
 
     @staticmethod
     def read(text: str) -> "FeedMark":
-        path, (device, number), begin, place = json.loads(text)
-        return FeedMark(path, (device, number), begin, FeedPlace(*place))
+        path, (device, number), begin, place, *turn = json.loads(text)
+        return FeedMark(path, (device, number), begin, FeedPlace(*place), *turn)
 
-    def known(self, feeds: Mapping[str, str]) -> FeedPlace:
-        """How far this file is in, by the feeds that a store's file knows; not at all where it is a new one. Raises `FeedFault`
-        where another file was read by this path, which has more than is in."""
-        mine = [it.place for it in map(FeedMark.read, feeds.values()) if (it.file, it.begin) == (self.file, self.begin)]
-        rest = None if mine else self.rest(feeds)
-        if rest is not None:
-            raise FeedFault(f"{self.path} is another file than the one that was read by this name, which is {rest} now and has "
-                            "more than is in: follow that one first, to its end")
-        return max(mine, key=lambda it: it.done, default=FeedPlace())
+    def known(self, feeds: Mapping[str, str]) -> List["FeedMark"]:
+        """What a store's file knows of this path, the last file last; and of this file by other paths, where it was followed by
+        those."""
+        found = sorted(map(FeedMark.read, feeds.values()), key=lambda it: it.turn)
+        return [it for it in found if it.path == self.path or (it.file, it.begin) == (self.file, self.begin)]
 
-    def rest(self, feeds: Mapping[str, str]) -> Optional[str]:
-        """The file that was read by this path before, as a log that was rotated, where it is beside this one by another name and
-        has more than is in."""
-        found = list(map(FeedMark.read, feeds.values()))
-        before = next((it for it in found if it.path == self.path and it.file != self.file), None)
-        if before is None:
-            return None
-        place = max((it.place for it in found if it.file == before.file), key=lambda it: it.done)
-        with os.scandir(os.path.dirname(self.path)) as beside:
-            return next((it.path for it in beside if it.inode() == before.file[1] and it.is_file()
-                         and (place.left or it.stat().st_size > place.read)), None)
+    def in_turn(self, known: "Sequence[FeedMark]", has: Callable[[FeedPlace], bool], after: int = 0) -> "FeedMark":
+        """This file, with how far it is in by what is known: not at all where it is a new one, which comes behind the last one of
+        its path, and the one of a turn. One that was followed before that is a new one too where it doesn't have what was read:
+        the system gives the number of a file that was removed to another."""
+        last = max((it.turn for it in known if it.path == self.path), default=0)
+        mine = [it for it in known if (it.file, it.begin) == (self.file, self.begin)]
+        mine = [it for it in mine if it.path == self.path and it.turn == last or has(it.place)]
+        found = max(mine, key=lambda it: it.place.done, default=self)
+        is_here = bool(mine) and found.path == self.path
+        return self._replace(place=found.place, turn=found.turn if is_here else max(last, after) + 1)

@@ -23,8 +23,8 @@ from ..engine.calling import LibraryFlight
 from ..engine.guard import Guard, alone
 from ..engine.held import LibraryVersion
 from ..engine.operations import Operations
-from ..engine.protocol import Held
-from ..errors import ReadOnly, StoreError
+from ..engine.protocol import Denied, Held
+from ..errors import ReadOnly, SequenceTaken, StoreError
 from ..values.answers import Collected, Commit, Compacted
 from ..feeds.terms import Terms
 
@@ -97,11 +97,58 @@ class Journaled(Passing):
         terms = batch.terms or self._terms
         settings = self.settings.with_units(terms.units) if batch.size else self.settings
         seen = self._seen if terms.names is self._terms.names else 0
-        producer, sequence = batch.post or (None, None)
-        entry = Entry(records, batch.size, terms.names.since(seen), flight.drops, producer, sequence, batch.feeder, batch.feed)
-        row = self._journal.append(entry, settings)
+        entry = _entry(flight, records, terms.names.since(seen))
+        row = self._journal.append([entry], settings)[0]
         self._seen += len(entry.texts) if terms.names is self._terms.names else 0
         return row
+
+    @alone
+    def fly_all(self, flights: Sequence[LibraryFlight]) -> List[Commit]:
+        """Applies batches in the store's terms as `fly` does each, in their order, with one write and one sync for all; gives
+        what each did. None goes in, and nothing is given, where they don't go together: where one would be refused, expires
+        edges, was sent before by its number or key, or has an endless store drop names."""
+        self._settle()
+        self._journal.must_be_well()
+        records = [self._writer.records_of(it.batch) for it in flights]
+        if self._were_sent(flights, records) or any(it.batch.expires for it in flights) or not self._are_taken(flights):
+            return []
+        texts = self._terms.names.since(self._seen)
+        entries = [_entry(flight, it, {} if at else texts) for at, (flight, it) in enumerate(zip(flights, records))]
+        rows = self._journal.append(entries, self.settings.with_units(self._terms.units))
+        self._seen += len(texts)
+        try:
+            return [self._accepted(flight, row) for flight, row in zip(flights, rows)]
+        except BaseException as fault:
+            raise self._journal.end(f"the file has batches that the store doesn't take ({fault})") from fault
+
+    def _were_sent(self, flights: Sequence[LibraryFlight], records: Sequence[bytes]) -> bool:
+        """Whether some batches were sent before by their numbers or keys, or two have the same."""
+        sent = [(it.batch, text) for it, text in zip(flights, records) if it.batch.post is not None]
+        if len({(batch.feeder, batch.post) for batch, _ in sent}) < len(sent):
+            return True
+        try:
+            return any(self.state.sources.first_answer(batch.post, batch.feeder, text) for batch, text in sent if batch.post)
+        except SequenceTaken:
+            return True
+
+    def _are_taken(self, flights: Sequence[LibraryFlight]) -> bool:
+        """Whether batches are taken one after another, each as it is: so they are where one of all their operations is, which
+        needs as many blocks and names or more."""
+        joint = self._inner.flight(Operations([row for it in flights for row in it.batch.rows]), False)
+        try:
+            self._inner.begin(joint)
+            return not joint.drops
+        except Denied:
+            return False
+        finally:
+            self._inner.cancel()
+
+    def _accepted(self, flight: LibraryFlight, row: Written) -> Commit:
+        """Has the library apply a batch that the file has."""
+        receipt = self._inner.fly(flight)
+        self.state.take(row, receipt)
+        self.beside.grew(row.operations)
+        return receipt
 
     def _finished(self, flight: LibraryFlight, row: Written) -> Commit:
         """Has the library accept a batch that the file has."""
@@ -217,6 +264,13 @@ class Journaled(Passing):
         self._journal.close()
         self.beside.join()
         self.inner.close()
+
+
+def _entry(flight: LibraryFlight, records: bytes, texts: Mapping[str, str]) -> Entry:
+    """A batch as it is written, with the texts of ids that come with it."""
+    batch = flight.batch
+    producer, sequence = batch.post or (None, None)
+    return Entry(records, batch.size, texts, flight.drops, producer, sequence, batch.feeder, batch.feed)
 
 
 class AsOf(Passing):

@@ -7,7 +7,7 @@ import sqlite3
 import threading
 import time
 from contextlib import suppress
-from typing import Any, Callable, List, Mapping, NamedTuple, Optional, Set, Tuple, TypeVar
+from typing import Any, Callable, Dict, List, Mapping, NamedTuple, Optional, Sequence, Set, Tuple, TypeVar
 
 from .lock import WritersLock
 from .recovery import rows_of, some
@@ -140,21 +140,26 @@ class Journal:
 
     # What is written.
 
-    def append(self, entry: Entry, settings: Settings) -> Written:
-        """Writes a batch as the next version, with the settings where they changed."""
+    def append(self, entries: Sequence[Entry], settings: Settings) -> List[Written]:
+        """Writes batches as the next versions, all at once, with the settings where they changed."""
         with self._alone:
             self.must_be_well()
             head = self.settle()
-            texts = {it: text for it, text in entry.texts.items() if it not in self.written}
+            rows: List[Written] = []
+            new: Dict[str, str] = {}
             self._at = max(self._at, time.time_ns() // 1_000)
-            row = Written(head.version + 1, self._at, entry.operations, entry.records, json.dumps(texts) if texts else None,
-                          int(entry.drops), *entry[4:]).summed(head.sum)
+            for entry in entries:
+                texts = {it: text for it, text in entry.texts.items() if it not in self.written and it not in new}
+                new.update(texts)
+                row = Written(head.version + len(rows) + 1, self._at, entry.operations, entry.records,
+                              json.dumps(texts) if texts else None, int(entry.drops), *entry[4:])
+                rows.append(row.summed(rows[-1].sum if rows else head.sum))
             changed = settings.written() if settings != self.settings else []
-            self._write(Head(row.version, head.epoch, row.sum), (_INSERT, row), *changed)
-            self._writers.note(row.version)
+            self._write(Head(rows[-1].version, head.epoch, rows[-1].sum), *((_INSERT, it) for it in rows), *changed)
+            self._writers.note(rows[-1].version)
             self.settings = settings
-            self.written.update(texts)
-            return row
+            self.written.update(new)
+            return rows
 
     def change(self, settings: Settings) -> None:
         """Writes other settings."""
@@ -220,6 +225,10 @@ class Journal:
         if self.opened.in_transaction:
             with suppress(sqlite3.Error):
                 self.opened.execute("ROLLBACK")
+
+    def end(self, why: str) -> JournalError:
+        """Ends this writer: nothing more is written until the file is opened again."""
+        return self._ended(JournalFault(f"{self.place}: {why}. Open the store again"))
 
     def _ended(self, fault: JournalError) -> JournalError:
         self.fault = fault

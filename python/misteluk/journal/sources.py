@@ -8,10 +8,11 @@ from typing import Any, Dict, List, NamedTuple, Optional, Tuple
 from .tables import Written, digest
 from ..engine.operations import Post
 from ..errors import SequenceTaken
+from ..feeds.steps import FeedMark
 from ..values.answers import Commit
 
-# How many keys are known, the last ones.
-MOST_KEYS = 10_000
+# How many keys are known, and how many files by the path of a feed: the last ones.
+MOST_KEYS, MOST_FILES = 10_000, 2
 
 
 class Taken(NamedTuple):
@@ -24,8 +25,8 @@ class Taken(NamedTuple):
 
 @dataclass
 class Sources:
-    """What each producer sent last, by its name; what came by each of the last keys, by who fed it and the key; and of each feed
-    that was followed, by its name, how far it is in, as JSON."""
+    """What each producer sent last, by its name; what came by each of the last keys, by who fed it and the key; and of each file
+    that was followed, by the last of a path, how far it is in, as JSON."""
 
     producers: Dict[str, Taken] = field(default_factory=dict)
     keys: Dict[Tuple[str, str], Taken] = field(default_factory=dict)
@@ -37,7 +38,7 @@ class Sources:
     def take(self, row: Written, commit: Commit) -> None:
         """Takes a batch, which did this."""
         if row.feed is not None:
-            self.feeds[json.loads(row.feed)[0]] = row.feed
+            self._take_feed(row.feed)
         if row.producer is None:
             return
         taken = Taken(row.sequence, digest(row.records), commit)
@@ -47,6 +48,12 @@ class Sources:
         self.keys[row.feeder or "", row.producer] = taken
         if len(self.keys) > MOST_KEYS:
             del self.keys[next(iter(self.keys))]
+
+    def _take_feed(self, feed: str) -> None:
+        """Takes how far a file is in, and forgets the one that was followed by its path long before."""
+        mark = FeedMark.read(feed)
+        self.feeds[f"{mark.turn} {mark.path}"] = feed
+        self.feeds.pop(f"{mark.turn - MOST_FILES} {mark.path}", None)
 
     def first_answer(self, post: Post, feeder: Optional[str], records: Optional[bytes]) -> Optional[Commit]:
         """What the batch of this number or key did before; `None` where it is a new one. Without records that alone is asked.

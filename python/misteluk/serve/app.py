@@ -27,6 +27,7 @@ from .openapi import AFTER, CALLS, described
 from .news import LONGEST, Bell, Events, known_of
 from .page import FILES, POLICY, VIEWED
 from .people import People, Person
+from .posts import WaitingPost
 from .questions import AT_ONCE, HELD, QUESTIONS, QUICK, WHOLE, Parameter, ServedQuestion
 from .several import Several
 from .tables import AS_CSV, CSV, wants_csv
@@ -263,8 +264,13 @@ class Api:
         if read is None:
             raise ValueError("rows are text/csv or application/json, as their Content-Type says")
         key = self._key_of(request)
-        found, person = read(await self._body(request)), _person(request)
-        receipt = await self.feed.run(lambda: self.feeding.rows(found, name, person, key))
+        person = _person(request)
+        post, waiting = WaitingPost(read(await self._body(request)), name, person, key), self.feeding.posts
+        waiting.put(post)
+        try:
+            receipt = await self.feed.run(lambda: self.feeding.rows(post))
+        finally:
+            waiting.forget(post)
         log.note("posted", who=person.name, version=receipt.version)
         return as_json(vars(receipt))
 

@@ -11,27 +11,27 @@ from typing import Any, Callable, Deque, Dict, Iterable, Iterator, List, Mapping
 
 from . import log
 from .board import Board
+from .checking import checked_operations, checked_rows, seen_rows
 from .limits import ServerLimits, TooLarge
 from .log import without_paths
 from .people import EVERYONE, Person
+from .posts import Queue, WaitingPost
+from .readers import Others, Readers
 from ..engine.calling import MOST_AT_ONCE
-from ..engine.operations import COMMANDS as OF_RECORDS, Operations, Post, Row, row_of
+from ..engine.operations import Operations, Post, Row, row_of
 from ..engine.protocol import Denied
 from ..errors import Busy, SessionClosed, StoreError, refusal
-from ..feeds.apart import Apart
+from ..feeds.apart import Applied, Apart
 from ..feeds.feed import parts_of
 from ..feeds.following import Following
+from ..journal.engine import Journaled
 from ..values import records
 from ..values.answers import Commit, sum_of
 from ..values.names import is_plain
 from ..feeds.terms import Terms
 
-# What a client calls an operation, and the command of its record.
-COMMANDS = {"insert": "i", "add": "a", "remove": "r", "expire": "x"}
 # Of how many clients that fed before it is remembered what their last batch did.
 FEEDERS = 100
-# How many signs a record of an operation has at most: three names within quotes, each sign twice, and two numbers.
-LONGEST = 3 * (2 * records.MOST_NAME + 2) + 2 * 20 + 6
 # Over how many seconds the feed's rate is told.
 RATED = 10.0
 
@@ -76,49 +76,30 @@ class Feeding:
         self._lock = threading.RLock()
         self._feeder: Optional[Feeder] = None
         self._before: Deque[Feeder] = deque(maxlen=FEEDERS)
-        self._following: Optional[Apart] = None
-        self._thread: Optional[threading.Thread] = None
+        self.posts = Queue()
+        self.readers = Readers(self._took, self._ended)
         self._is_over = False
         # Whether a followed file was read to its end once.
         self._is_read = False
 
     # A feed that is followed.
 
-    def follow(self, following: Following, behind: Callable[[], Optional[Following]] = lambda: None) -> None:
-        """Has a feed go in by a thread and a process of their own, until it ends or `close` ends it; and then the one that comes
-        behind it, where there is one."""
-        apart = Apart(following)
-        self._following, self.state, self._is_read = apart, "followed", False
-        self._thread = threading.Thread(target=self._run, args=(apart, behind), name="feed")
-        self._thread.start()
+    def follow(self, following: Following, others: Optional[Others] = None) -> None:
+        """Has a feed go in by a thread and a process of their own, until it ends or `close` ends it; and those files too that
+        take the place of its own."""
+        self.state, self._is_read = "followed", False
+        self.readers.begin(following, others)
 
-    def _run(self, following: Apart, behind: Callable[[], Optional[Following]]) -> None:
-        try:
-            more: Optional[Following] = None
-            while True:
-                self._steps(following)
-                more = None if self._is_over else behind()
-                if more is None:
-                    break
-                following.close()
-                following = self._following = Apart(more)
-            self.state = "ended"
-        except BaseException as fault:  # (whatever it is: who asks would else take the feed for one that goes on)
-            self._failed(following, fault)
-        finally:
-            following.close()
+    def _took(self, step: Applied, rows: int) -> None:
+        self.rate.add(rows)
+        self.expired += step.commit.expired
+        self.board.advance()
 
-    def _steps(self, following: Apart) -> None:
-        before = following.place.rows
-        for step in following:
-            self.rate.add(step.rows - before)
-            self.expired += step.commit.expired
-            before = step.rows
-            self.board.advance()
-
-    def _failed(self, following: Apart, fault: BaseException) -> None:
+    def _ended(self, following: Apart, fault: Optional[BaseException]) -> None:
+        self.state = "ended" if fault is None else "failed"
+        if fault is None:
+            return
         self.fault, self.reason = getattr(fault, "word", "") or type(fault).__name__, without_paths(str(fault), following.name)
-        self.state = "failed"
         is_meant = isinstance(fault, (StoreError, ValueError, OSError))
         log.fault(f"the feed ended: {fault}", None if is_meant else fault, f"the feed ended: {self.reason}")
         self.store.discard()
@@ -172,8 +153,9 @@ class Feeding:
             if feeder.number != number:
                 self._must_go_on()
                 operations = checked_operations(text)
+                operations.feeder = None if person == EVERYONE else person.name
                 self._take_texts(texts)
-                feeder.receipt, feeder.number = self._apply(operations, collect, person), number
+                feeder.receipt, feeder.number = self._apply(operations, collect), number
                 self.board.advance()
             if feeder.receipt is None:
                 raise SessionClosed(f"batch {number} was given up")
@@ -201,40 +183,99 @@ class Feeding:
         for text in texts.values():
             names.to_program(text)
 
-    def _apply(self, operations: Operations, collect: bool, person: Person) -> Commit:
+    def _apply(self, operations: Operations, collect: bool) -> Commit:
         engine = self.store._engine
-        operations.feeder = None if person == EVERYONE else person.name
+        before = engine.stat().version
         receipt = engine.fly(engine.flight(operations, collect))
-        if receipt.version > self.board.stat.version:  # (else it was applied before, by its key)
-            self.rate.add(operations.size)
-            self.expired += receipt.expired
+        if receipt.version > before:  # (else it was applied before, by its key)
+            self._count(operations, receipt)
         return receipt
+
+    def _count(self, operations: Operations, receipt: Commit) -> None:
+        self.rate.add(operations.size)
+        self.expired += receipt.expired
 
     # Rows in the user's terms.
 
-    def rows(self, rows: Iterable[Sequence[str]], name: Optional[str] = None, person: Person = EVERYONE,
-             key: Optional[str] = None) -> Commit:
-        """Applies rows, each an operation's word and fields, in batches; all of them are checked before. With a key they are one
-        batch, and a repeat gets the first one's answer. Raises `Busy` where another feeds the store."""
-        with self._lock:
-            if name is None:
-                self.let_go(self.claim(person).name)
+    def rows(self, post: WaitingPost) -> Commit:
+        """Applies a post's rows, each an operation's word and fields, in batches; all of them are checked before. With a key they
+        are one batch, and a repeat gets the first one's answer. Raises `Busy` where another feeds the store. What waits with the
+        post goes in with it, by one write and one sync: whose turn comes later finds its answer."""
+        if not post.is_done:
+            with self._lock:
+                self._take(self.posts.emptied())
+        return post.told()
+
+    def _take(self, posts: Sequence[WaitingPost]) -> None:
+        together: List[Tuple[WaitingPost, Deque[List[Row]]]] = []
+        size = 0
+        try:
+            for post in posts:
+                found = self._checked(post)
+                count = sum(map(len, found))
+                if size + count > records.MOST_OPERATIONS:
+                    self._answer(together)
+                    together, size = [], 0
+                together, size = together + [(post, found)] * bool(found), size + count
+            self._answer(together)
+        finally:
+            self.board.advance()
+
+    def _checked(self, post: WaitingPost) -> Deque[List[Row]]:
+        """The batches of a post; none where it is refused."""
+        try:
+            if post.name is None:
+                self.let_go(self.claim(post.person).name)
             else:
-                self._known(name, person)
-            found = self._records(rows)
+                self._known(post.name, post.person)
+            found = self._records(post.rows)
             if not found:
                 raise ValueError("there are no rows")
+            if post.key is not None and sum(map(len, found)) > MOST_AT_ONCE:
+                raise TooLarge(f"a post with an Idempotency-Key has at most {MOST_AT_ONCE:,} rows: send several")
+            return found
+        except Exception as fault:
+            post.fault = fault
+            return deque()
+
+    def _answer(self, posts: "Sequence[Tuple[WaitingPost, Deque[List[Row]]]]") -> None:
+        """Applies checked posts, all at once where that can be, and else one after another."""
+        if len(posts) > 1 and self._are_in_at_once(posts):
+            return
+        for post, found in posts:
             try:
-                return self._in_batches(found, person) if key is None else self._once(found, person, key)
-            finally:
-                self.board.advance()
+                post.answer = (self._in_batches(found, post.person) if post.key is None else
+                               self._once(found, post.person, post.key))
+            except Exception as fault:
+                post.fault = fault
+
+    def _are_in_at_once(self, posts: "Sequence[Tuple[WaitingPost, Deque[List[Row]]]]") -> bool:
+        """Whether posts of one batch each went in by one write and one sync, or were refused by that."""
+        engine = self.store._engine
+        if not isinstance(engine, Journaled):
+            return False
+        batches = [self._batch(found[0], post.person, post.key) for post, found in posts]
+        try:
+            done = engine.fly_all([engine.flight(it, True) for it in batches])
+        except StoreError as fault:
+            for post, _ in posts:
+                post.fault = fault
+            return True
+        for (post, _), batch, receipt in zip(posts, batches, done):
+            post.answer = receipt
+            self._count(batch, receipt)
+        return bool(done)
+
+    @staticmethod
+    def _batch(rows: Sequence[Row], person: Person, key: Optional[str] = None) -> Operations:
+        batch = Operations(rows, post=None if key is None else Post(key, None))
+        batch.feeder = None if person == EVERYONE else person.name
+        return batch
 
     def _once(self, found: Deque[List[Row]], person: Person, key: str) -> Commit:
         """Applies rows as one batch, once for each key of a person."""
-        if sum(map(len, found)) > MOST_AT_ONCE:
-            raise TooLarge(f"a post with an Idempotency-Key has at most {MOST_AT_ONCE:,} rows: send several")
         try:
-            return self._apply(Operations(list(chain.from_iterable(found)), post=Post(key, None)), True, person)
+            return self._apply(self._batch(list(chain.from_iterable(found)), person, key), True)
         except Denied as fault:
             raise refusal(fault.word, "nothing of this post is in", advice=fault.advice) from None
 
@@ -243,7 +284,7 @@ class Feeding:
         with one_by_one(found):
             while found:
                 try:
-                    done.append(self._apply(Operations(found.popleft()), True, person))
+                    done.append(self._apply(self._batch(found.popleft(), person), True))
                 except Denied as fault:
                     first = len(done) * records.MOST_OPERATIONS + 1
                     raise refusal(fault.word, f"the rows before row {first} are in, and none behind it") from None
@@ -259,8 +300,8 @@ class Feeding:
         with one_by_one(parts):
             for part in parts_of(rows, records.MOST_OPERATIONS):
                 self._must_go_on()
-                seen = _seen_rows(part, terms)
-                parts.append((_checked_rows(part, count + 1, terms), None) if seen is None else ((), seen))
+                seen = seen_rows(part, terms)
+                parts.append((checked_rows(part, count + 1, terms), None) if seen is None else ((), seen))
                 count += len(part)
             self._must_go_on()
             while parts:
@@ -276,7 +317,7 @@ class Feeding:
     @property
     def is_reading(self) -> bool:
         """Whether a followed file wasn't read to its end yet, since the server began."""
-        following = self._following
+        following = self.readers.last
         self._is_read = self._is_read or following is None or not self._is_followed or not following.behind
         return not self._is_read
 
@@ -285,21 +326,21 @@ class Feeding:
         state, by = self.state, {}
         if self._feeder is not None and self._feeder.heard > self._clock() - self.limits.idle and not self._is_followed:
             state, by = "a client feeds", {"by": self._feeder.owner.name}
-        following = self._following
-        is_half, killed = (False, 0) if following is None else (following.ended_half, following.killed)
+        readers, following = self.readers, self.readers.last
+        is_half = following is not None and following.ended_half
         is_replaced = following is not None and self._is_followed and following.is_replaced
         return {"state": state, **by, "rows": self.rate.total, "rows_a_second": round(self.rate.a_second(), 1),
-                "bad": 0 if following is None else following.place.bad, "expired": self.expired, **_told_of_rows(following),
-                **({"half_line": True} if is_half else {}), **({"readers_killed": killed} if killed else {}),
+                "bad": readers.bad, "expired": self.expired, **_told_of_rows(following),
+                **({"half_line": True} if is_half else {}), **({"readers_killed": readers.killed} if readers.killed else {}),
                 **({"replaced": True} if is_replaced else {}),
+                **({"rotated": readers.rotated, "late": readers.late} if readers.rotated else {}),
+                **({"lost": readers.lost} if readers.lost else {}),
                 **({"error": self.fault, "reason": self.reason} if self.fault else {})}
 
     def close(self) -> None:
         """Ends the feed: what was read of one that is followed goes in, and so does what is being applied; nothing does later."""
         self._is_over = True
-        if self._following is not None and self._thread is not None:
-            self._following.stop()
-            self._thread.join()
+        self.readers.stop()
         with self._lock:  # (which a batch has as long as it is being applied)
             pass
 
@@ -321,63 +362,3 @@ def _told_of_rows(following: Optional[Apart]) -> Dict[str, Any]:
     last, behind = following.last_bad, following.behind
     told = None if last is None else {"line": last.line, "reason": without_paths(last.reason, following.name)}
     return {**({} if told is None else {"last_bad": told}), **({} if behind is None else {"behind": behind})}
-
-
-def checked_operations(text: str) -> Operations:
-    """Records of operations that a client sent. Raises a `Refused` where one breaks a rule."""
-    if text.count("\n") > records.MOST_OPERATIONS or len(text) > LONGEST * records.MOST_OPERATIONS:
-        raise refusal("BatchFull")
-    *lines, rest = text.split("\n")
-    found = None if rest else _plain_rows(lines)
-    if found is not None:
-        return Operations(found)
-    rows: List[Row] = []
-    for at, line in enumerate([*lines, *filter(None, [rest])], 1):
-        fields = records.split_record(line)
-        faults = records.faults_of(fields)
-        if faults:
-            raise refusal(faults[0].word, f"row {at}: {faults[0]}", advice="")
-        if fields[0] not in records.OPERATIONS or records.record(fields) != f"{line}\n" or rest:
-            raise refusal("BadCommand", f"row {at} is no operation", advice="")
-        rows.append(row_of(fields))
-    return Operations(rows)
-
-
-def _checked_rows(rows: Sequence[Sequence[str]], first: int, terms: Terms) -> List[Tuple[str, ...]]:
-    """A client's rows as records, each with its command. Raises a `Refused` for one that is none, by its number."""
-    asked = [(COMMANDS.get(row[0] if row else "", ""), *row[1:]) for row in rows]
-    for at, fields in enumerate(asked, first):
-        if not fields[0]:
-            raise refusal("BadCommand", f"row {at}: an operation is {', '.join(COMMANDS)}", advice="")
-        faults = terms.faults_of(fields)
-        if faults:
-            told = terms.refusal(faults[0])
-            raise refusal(faults[0].word, f"row {at}: {told.fault or faults[0]}")
-    return asked
-
-
-def _seen_rows(rows: Sequence[Sequence[str]], terms: Terms) -> Optional[List[Row]]:
-    """The operations of a client's rows, where each is seen at once to be an insertion or addition of names that are the engine's
-    as they stand; else `None`."""
-    if set(map(len, rows)) != {6}:
-        return None
-    words, kinds, sources, targets, weights, times = zip(*rows)
-    if not set(words) <= {"insert", "add"} or not terms.knows({*kinds, *sources, *targets}):
-        return None
-    numbers: Any = terms.units.weights_of(weights), terms.units.times_of(times)
-    if any(None in it for it in numbers):
-        return None
-    return list(zip((OF_RECORDS.index(COMMANDS[it]) for it in words), kinds, sources, targets, *numbers))
-
-
-def _plain_rows(lines: Sequence[str]) -> Optional[List[Row]]:
-    """The operations of records, where each is seen at once to be an insertion or addition that keeps every rule; else `None`."""
-    fields = [it.split(",") for it in lines]
-    if not fields or set(map(len, fields)) != {6} or '"' in "".join(lines):
-        return None
-    commands, kinds, sources, targets, weights, times = zip(*fields)
-    numbers: Any = records.whole_numbers(weights, "q", 12), records.whole_numbers(times, "Q", 18)
-    names = {*kinds, *sources, *targets}
-    if not set(commands) <= {"i", "a"} or None in numbers or records.ANY in kinds or not records.are_names(names):
-        return None
-    return list(zip(map(OF_RECORDS.index, commands), kinds, sources, targets, *numbers))

@@ -43,8 +43,8 @@ FAULT = of({"error": TEXT, "reason": TEXT}, retry_after=WHOLE, denied=TRUTH, sta
 RECEIPT = of({it: WHOLE for it in ("version", *COUNTS)})
 SESSION = of({"session": TEXT, "version": WHOLE, "vertices": WHOLE, "idle": NUMBER})
 FEED = of({"state": TEXT, "rows": WHOLE, "rows_a_second": NUMBER, "bad": WHOLE, "expired": WHOLE}, by=TEXT, behind=WHOLE,
-          last_bad=of({"line": WHOLE, "reason": TEXT}), half_line=TRUTH, readers_killed=WHOLE, replaced=TRUTH, error=TEXT,
-          reason=TEXT)
+          last_bad=of({"line": WHOLE, "reason": TEXT}), half_line=TRUTH, readers_killed=WHOLE, replaced=TRUTH, rotated=WHOLE,
+          late=WHOLE, lost=TEXT, error=TEXT, reason=TEXT)
 SAVED = of({"version": or_null(WHOLE), "seconds": or_null(NUMBER)}, state=TEXT, error=TEXT, reason=TEXT)
 FILE = of({"oldest": WHOLE, "bytes": WHOLE}, base=WHOLE, fault=TEXT)
 REPLICA = of({"behind": WHOLE, "seconds": NUMBER}, reason=TEXT)
