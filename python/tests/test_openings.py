@@ -19,7 +19,6 @@ from misteluk import Edge, Limits, Store, ledger, saving
 from misteluk.engine import library, openings
 from misteluk.engine.operations import ADD, INSERT, Numbered
 from misteluk.feeds import loading
-from misteluk.feeds.surveys import Part
 from misteluk.values import records
 
 WINDOWS = ({}, {"since": 10, "until": 40})
@@ -130,17 +129,17 @@ class Loads(Case):
         def from_nothing(engine, opening, flight, stat):
             return opened(engine, opening, flight, stat)._replace(before=0, number=0)
 
-        def backwards(parts):
-            whole = joined(parts)
-            return Part(Numbered(*(it[::-1] for it in whole.columns[:6]), *whole.columns[6:]), whole.lines)
+        def backwards(store, found, part, at, collect, opens=0):
+            columns = Numbered(*(it[::-1] for it in part.columns[:6]), *part.columns[6:])
+            return apply(store, found, part._replace(columns=columns) if opens else part, at, collect, opens)
 
-        def but_the_last(parts):
-            return joined(parts).some(slice(-1))
-        as_batches, opened, joined = loading.as_batches, library.LibraryEngine._opened, Part.joined
+        def but_the_last(store, found, part, at, collect, opens=0):
+            return apply(store, found, part.some(slice(-1)) if opens and len(part.lines) > 1 else part, at, collect, opens)
+        as_batches, opened, apply = loading.as_batches, library.LibraryEngine._opened, loading._apply
         for where, name, fault in ((loading, "as_batches", one_more), (library.LibraryEngine, "_opened", swapped),
                                    (library.LibraryEngine, "_opened", from_nothing),
-                                   (openings, "may_overflow", lambda *_: False), (Part, "joined", staticmethod(backwards)),
-                                   (Part, "joined", staticmethod(but_the_last))):
+                                   (openings, "may_overflow", lambda *_: False), (loading, "_apply", backwards),
+                                   (loading, "_apply", but_the_last)):
             with self.subTest(fault=fault):
                 self.assertGreater(self.differ(range(30), lambda: mock.patch.object(where, name, fault))[0], 0)
 

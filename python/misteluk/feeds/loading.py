@@ -8,9 +8,10 @@ from typing import TYPE_CHECKING, Any, Iterator, List, Optional, Tuple
 from .limits import check, check_room
 from .feed import Path
 from .opening import ReadAs
+from .parts import Part
 from .progress import Progress
 from .rejects import Rejected
-from .surveys import Part, Survey, survey
+from .surveys import Survey, survey
 from ..engine.calling import MOST_AT_ONCE
 from ..engine.openings import as_batches, may_open
 from ..engine.operations import Operations
@@ -118,7 +119,7 @@ def _steps(store: "Store[Any, Any]", found: Survey, collect: bool, skip_bad: boo
     at = 0
     while at < len(found.parts):
         count = max(min(most, store.stat().free // records.MOST_OPERATIONS), 1) if most > 1 else 1
-        part = Part.joined(found.parts[at:at + count]) if count > 1 else found.parts[at]
+        part = found.parts.joined(at, min(at + count, len(found.parts)))
         try:
             receipt = _apply(store, found, part, at, collect)
         except Refused:
@@ -133,7 +134,7 @@ def _steps(store: "Store[Any, Any]", found: Survey, collect: bool, skip_bad: boo
 def _opened(store: "Store[Any, Any]", found: Survey) -> Optional[Tuple[Part, Commit]]:
     """Has an empty store open with a whole feed in one step, as far as nobody can tell that from batches, and gives what they
     would have done. Where it doesn't, batches say why."""
-    whole = Part.joined(found.parts) if len(found.parts) > 1 else found.parts[0]
+    whole = found.parts.whole
     opens = as_batches(store._engine, whole.columns)
     try:
         return (whole, _apply(store, found, whole, 0, True, opens)) if opens else None
@@ -152,7 +153,7 @@ def _apply(store: "Store[Any, Any]", found: Survey, part: Part, at: int, collect
         raise NoAnswer(f"{fault}; lines {part.lines[0]} to {part.lines[-1]} of {found.feed} were sent, all before them are in, "
                        "and none behind them was sent") from fault
     except Refused as fault:
-        done = sum(len(it.lines) for it in found.parts[:at])
+        done = found.parts.before(at)
         text = (f"the batch of lines {part.lines[0]} to {part.lines[-1]} was refused, and neither it nor what comes behind it is "
                 f"in; {done} rows before it are")
         if isinstance(fault, PoolEmpty):
