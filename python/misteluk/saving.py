@@ -6,6 +6,7 @@ store that a run begins with, so nothing of them is in the graph, nor among its 
 """
 from __future__ import annotations
 
+import contextlib
 import hashlib
 import os
 import re
@@ -18,10 +19,11 @@ from . import files
 from .values import records
 from .engine.calling import MOST_AT_ONCE
 from .engine.copies import Content, content_of, operations_of
+from .engine.openings import as_batches, may_open
 from .engine.operations import Numbered, Operations
 from .engine.room import Room
 from .engine.scripts import Records, operations_in
-from .errors import Missing, PoolEmpty, SaveFault, StoreError
+from .errors import Missing, PoolEmpty, Refused, SaveFault, StoreError
 from .feeds.feed import escaped, parts_of
 from .values.texts import Path
 from .values.names import MARK
@@ -206,7 +208,14 @@ def _fill(store: "Store[Any, Any]", found: Found, size: int, told: Progress) -> 
     """Applies a file's operations, in batches of this size, to an empty store, and takes its names and kinds."""
     ledger = store._ledger
     ledger.terms.names.put(found.texts)
-    at, count = 0, len(found.operations.codes)
+    at, count, whole = 0, len(found.operations.codes), Operations(columns=found.operations)
+    if size == records.MOST_OPERATIONS and may_open(store._engine):
+        whole.opens = as_batches(store._engine, found.operations)
+    if whole.opens:
+        with contextlib.suppress(Refused):  # (batches say why)
+            ledger.apply(whole, True)
+            told.step(count)
+            at = count
     while at < count:
         most = store.stat().free // records.MOST_OPERATIONS * records.MOST_OPERATIONS
         part = found.operations.some(slice(at, at + max(min(most, MOST_AT_ONCE), size or 1)))

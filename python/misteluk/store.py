@@ -177,7 +177,7 @@ class Store(Uncopied, Generic[W, T]):
 
         `by` is "set" or "add": whether a later row of the same kind, source and target replaces the first one's weight or adds to
         it. Rows are applied in batches of `batch`, 1 to 4,096, each a version, which a collection follows unless `collect` is
-        false. Without `batch` they are of up to 65,536 rows, as far as there are free blocks for them, which takes less time.
+        false. Without it they have up to 65,536 rows, as far as blocks are free; an empty store takes them in one step.
 
         Everything is read and checked first: `BadRows` names bad rows by line, field and reason (`skip_bad` passes them over, and
         counts them), `OverLimit` says what is more than a store takes, with counts, and nothing was applied. Where a store that

@@ -1,6 +1,7 @@
 """Files whose fields numpy reads at once hold what they hold where each field is a text of its own."""
 import random
 import unittest
+from array import array
 from unittest import mock
 
 from support import Case, optional
@@ -67,10 +68,74 @@ class OfAFile(Case):
         with mock.patch.object(fields, "MIX", 0):
             self.must_agree("\n".join(map(",".join, RIGHT * 3)))
 
+    def test_texts_of_which_the_first_is_not_known(self):
+        with mock.patch.object(fields, "_firsts", lambda *_: None):
+            self.must_agree("\n".join(map(",".join, RIGHT * 3)))
+
     def test_a_fault_is_found(self):
         with mock.patch.object(fields, "MOST_BYTES", 8), mock.patch.object(
                 fields.Fields, "_words", lambda self, length: iter(())), self.assertRaises(AssertionError):
             self.must_agree("aa,ab,1,0\nab,aa,1,0\n")
+
+
+@unittest.skipUnless(optional("numpy"), "numpy is not there")
+class Numbers(unittest.TestCase):
+    def some(self, made):
+        """Digits of any length, some with a sign, and some with what is none."""
+        signs = made.choice(("", "", "-", "0-"))
+        found = [made.choice(signs or " ").strip() + "".join(made.choices("0123456789", k=made.randrange(1, 19)))
+                 for _ in range(made.choice((1, 2, 6)))]
+        if made.random() < 0.3:
+            at = made.randrange(len(found[0]) + 1)
+            found[0] = found[0][:at] + made.choice("/:-+. a\x00\x7f") + found[0][at:]
+        return found if made.random() < 0.95 else ["", *found]
+
+    def plain(self, texts, code, digits):
+        """The numbers, one by one; `None` where one is none, or has more signs."""
+        without = [it[1:] if it.startswith("-") and code == "q" else it for it in texts]
+        if any(not it or set(it) - set("0123456789") for it in without) or max(map(len, texts)) > digits:
+            return None
+        return array(code, map(int, texts))
+
+    def differ(self, seeds):
+        """How many of some columns are read otherwise, and how many have numbers alone."""
+        import numpy
+        count = right = 0
+        for seed in seeds:
+            made = random.Random(seed)
+            texts, (code, digits) = self.some(made), made.choice((("q", 14), ("q", 12), ("Q", 18)))
+            ends = numpy.cumsum([len(it) + 1 for it in texts]) - 1
+            text = "".join(f"{it}," for it in texts)
+            column = fields.Fields(text, fields.data_of(numpy, text), ends - [len(it) for it in texts], ends)
+            wanted = self.plain(texts, code, digits)
+            count += column.whole_numbers(code, digits) != wanted
+            right += wanted is not None
+        return count, right
+
+    def test_they_are_those_of_python(self):
+        count, right = self.differ(range(3_000))
+        self.assertEqual(count, 0)
+        self.assertGreater(right, 500)
+
+    def test_faults_are_found(self):
+        for name, fault in (("PAIRS", fields.PAIRS[:2]), ("PAST_NINE", fields.PAST_NINE + 1), ("TOP_BITS", 0x8080_8080),
+                            ("ZEROS", fields.ZEROS + 1)):
+            with self.subTest(name), mock.patch.object(fields, name, fault):
+                self.assertGreater(self.differ(range(300))[0], 0)
+
+    def test_firsts(self):
+        """Beside a dictionary, also where all are mixed to one number: then a few are known, and of more nothing."""
+        import numpy
+        made = random.Random(5)
+        for at in range(300):
+            keys = [numpy.array(made.choices(range(made.choice((1, 3, 90))), k=made.choice((1, 9, 200))), dtype="uint64")]
+            keys.append(keys[0] // 7 if at % 2 else numpy.array(made.choices((0, 1 << 63), k=len(keys[0])), dtype="uint64"))
+            known = {}
+            wanted = [known.setdefault(it, place) for place, it in enumerate(zip(*map(numpy.ndarray.tolist, keys)))]
+            self.assertEqual(fields._firsts(numpy, keys).tolist(), wanted)
+            with mock.patch.object(fields, "MIX", 0):
+                found = fields._firsts(numpy, keys)
+            self.assertEqual(found if found is None else found.tolist(), None if len(known) > fields.MOST_TURNS else wanted)
 
 
 class OfAFeed(unittest.TestCase):

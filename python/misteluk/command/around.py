@@ -3,12 +3,11 @@ from __future__ import annotations
 
 import argparse
 from dataclasses import replace
-from itertools import accumulate
-from typing import Any, Dict, List, Optional, Tuple
+from typing import Any, Dict, Optional, Tuple
 
 from ..errors import FeedFault
 from ..feeds.loading import load_in_steps
-from ..feeds.surveys import Part, Survey
+from ..feeds.surveys import Survey
 from ..session import Session
 from ..store import Store
 from ..page.view import MOST_DRAWN, MOST_HOPS, USUAL_DRAWN, View, view
@@ -51,11 +50,11 @@ def draw(words: argparse.Namespace, store: Store[Any, Any], found: Survey, windo
 
 def _rows_before(words: argparse.Namespace, found: Survey) -> int:
     """How many rows are up to the time or line. Raises `FeedFault` where they aren't the first ones."""
-    lines = [line for part in found.parts for line in part.lines]
+    lines = found.parts.whole.lines
     if words.at is None:
         return sum(it <= words.at_line for it in lines)
     last = int(found.terms.units.time_to_program(words.at, is_end=True))
-    is_late = [it > last for part in found.parts for it in part.columns.times]
+    is_late = [it > last for it in found.parts.whole.columns.times]
     rows = is_late.index(True) if True in is_late else len(is_late)
     if not all(is_late[rows:]):
         early = lines[is_late.index(False, rows)]
@@ -66,11 +65,5 @@ def _rows_before(words: argparse.Namespace, found: Survey) -> int:
 
 def _cut(found: Survey, rows: int) -> Tuple[Survey, int]:
     """The survey with a batch that ends behind so many rows, and how many batches end there or before."""
-    parts: List[Part] = []
-    done = 0
-    for part in found.parts:
-        room, size = rows - done, len(part.lines)
-        done += size
-        parts += [part.some(slice(room)), part.some(slice(room, None))] if 0 < room < size else [part]
-    ends = accumulate(len(part.lines) for part in parts)
-    return replace(found, parts=parts), sum(it <= rows for it in ends)
+    parts = found.parts.cut(rows)
+    return replace(found, parts=parts), sum(it <= rows for it in parts.ends)

@@ -128,7 +128,7 @@ class LibraryFlight:
     def take(self, before: int) -> None:
         """Takes what it did, by its counts, where so many versions were made before the desk began."""
         version, inserted, updated, removed, absent, overflowed, expired = _COUNTS.unpack(self.counts)
-        self.receipt = Commit(version + before, inserted, updated, removed, absent, overflowed, 1, expired)
+        self.receipt = Commit(version + before, inserted, updated, removed, absent, overflowed, self.batch.opens or 1, expired)
 
 
 def fill(library: Library, raw: interface.Batch, batch: Operations) -> None:

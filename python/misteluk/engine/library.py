@@ -13,7 +13,7 @@ import os
 import time
 import weakref
 from ctypes import c_uint64, sizeof
-from typing import Any, Dict, Iterable, List, Optional, Sequence, Tuple
+from typing import Any, Dict, List, Optional, Sequence
 
 from . import interface
 from .calling import MOST_AT_ONCE, WORDS, Known, LibraryFlight, check, columns_of, fill, opened, refusal_of
@@ -108,15 +108,27 @@ class LibraryEngine:
 
     def _found(self, opening: Opening) -> Opening:
         """What became of what is on its way. A desk counts one version more where the batch is in, and from 0 where it began
-        anew."""
-        number, flight = self._stat(opening).version, opening.flying
-        if number < opening.number:
+        anew; and it has vertices where it opened with some."""
+        stat, flight = self._stat(opening), opening.flying
+        number = stat.version
+        if flight is not None and flight.batch.opens:
+            opening = self._opened(opening, flight, stat) if stat.vertices else opening
+        elif number < opening.number:
             opening = opening._replace(before=opening.number, kept=0)
         elif flight is not None and number > opening.number:
             flight.take(opening.before)
             self._empty = [flight.owned]
             opening = opening._replace(number=number, kept=opening.kept + flight.batch.size)
         return opening._replace(flying=None, begins_anew=False)
+
+    def _opened(self, opening: Opening, flight: LibraryFlight, stat: Stat) -> Opening:
+        """What a desk is that opened with operations, whose version 0 counts as the last one of their batches. Nothing was there
+        and nothing was taken away or overflowed, so each edge was inserted once, and every other operation updated one."""
+        number = opening.number + flight.batch.opens
+        flight.counts.inserted, flight.counts.updated = stat.edges, flight.batch.size - stat.edges
+        flight.take(number)
+        self._empty = [flight.owned]
+        return opening._replace(before=number, number=number, kept=0)
 
     def _stat(self, opening: Opening) -> Stat:
         stat = interface.Stat()
@@ -132,7 +144,8 @@ class LibraryEngine:
 
     def flight(self, batch: Operations, collect: bool) -> LibraryFlight:
         owned = self._empty.pop() if self._empty else self._new_batch()
-        fill(self.library, owned.raw, batch)
+        if not batch.opens:
+            fill(self.library, owned.raw, batch)
         return LibraryFlight(batch, collect, owned)
 
     def _new_batch(self) -> Owned:
@@ -147,7 +160,10 @@ class LibraryEngine:
 
     @alone
     def fly(self, flight: LibraryFlight) -> Commit:
-        code = self._applied(self._settle(), flight)
+        opening = self._settle()
+        if flight.batch.opens and self._stat(opening).vertices:  # (another thread was first; else the desk's own would be these)
+            raise Denied("NotEmpty")
+        code = self._applied(opening, flight)
         if code:
             self._help(self._settle(), code, flight)
         return self._receipt(flight)
@@ -155,6 +171,8 @@ class LibraryEngine:
     def _applied(self, opening: Opening, flight: LibraryFlight) -> int:
         """The code by which the desk takes a batch, or refuses it."""
         self._opening = opening._replace(flying=flight)
+        if flight.batch.opens:
+            return self.library.desk_open_columns(opening.desk.raw, columns_of(flight.batch.columns), c_uint64())
         return self.library.desk_apply(opening.desk.raw, flight.owned.raw, flight.counts)
 
     def _receipt(self, flight: LibraryFlight) -> Commit:
@@ -168,12 +186,12 @@ class LibraryEngine:
 
     def _help(self, opening: Opening, code: int, flight: LibraryFlight) -> None:
         """Applies a batch that was refused, where there can be room for it. Else raises, and nothing is changed."""
-        if code not in WORDS:
+        if code not in WORDS or flight.batch.opens:
             raise refusal_of(code)
         stat, is_crowded = self._stat(opening), code in (Code.NAMES_FULL, Code.KINDS_FULL)
         if code == Code.BATCHES_FULL:
             version = self._last(opening)
-            is_crowded = not self._has_room(opening.shape, *_wanted(flight, version.names(), version.kinds()))
+            is_crowded = not self._has_room(opening.shape, *flight.batch.known_after(version.names(), version.kinds()))
             version.end()
         if not is_crowded and flight.batch.asked(stat.used) <= stat.free + stat.retired:
             check(self._applied(self._begin_anew(opening), flight))
@@ -197,7 +215,7 @@ class LibraryEngine:
         content, shape = self._content(opening), opening.shape
         if is_crowded and self.endless:
             content = content.without_idle_names()
-        vertices, kinds = _wanted(flight, content.names, content.kinds)
+        vertices, kinds = flight.batch.known_after(content.names, content.kinds)
         if not self._has_room(shape, vertices, kinds):
             over = self.limits.over(vertices, kinds)
             if over:
@@ -311,7 +329,7 @@ class LibraryEngine:
         blocks want them. Raises `Denied` (PoolEmpty) where there are too few."""
         opening = self._new(number, blocks, shape)._replace(rebased=self._opening.rebased)
         operations = operations_of(content)
-        if operations.codes and REMOVE not in operations.codes:
+        if operations.codes and not operations.has(REMOVE):
             check(self.library.desk_open_columns(opening.desk.raw, columns_of(operations), c_uint64()))
             return opening
         at, count = 0, len(operations.codes)
@@ -377,9 +395,3 @@ class LibraryEngine:
         self._close_versions(self._versions)
         self._opening = self._opening._replace(desk=Owned(interface.Desk(), self.handles.desks), flying=None, rebased=None)
         self.handles.give_back(self.library)
-
-
-def _wanted(flight: LibraryFlight, names: Iterable[str], kinds: Iterable[str]) -> Tuple[int, int]:
-    """How many vertices and kinds there would be, with these, after a batch."""
-    rows = [it for it in flight.batch.rows if it[0] < REMOVE]
-    return len({*names, *(it[2] for it in rows), *(it[3] for it in rows)}), len({*kinds, *(it[1] for it in rows)})

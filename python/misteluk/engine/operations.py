@@ -111,6 +111,10 @@ class Numbered(NamedTuple):
         columns: Any = [it[rows] for it in self[:6]]
         return Numbered._make([*columns, self.of_kinds, self.of_names])
 
+    def has(self, code: int) -> bool:
+        """Whether an operation of this sort is among them."""
+        return code in self.codes.tobytes()  # (an array would make a number of each of them)
+
     def rows(self) -> List[Row]:
         kinds, names = self.of_kinds.names.__getitem__, self.of_names.names.__getitem__
         rows: Any = zip(self.codes, map(kinds, self.kinds), map(names, self.sources), map(names, self.targets), self.weights,
@@ -136,7 +140,8 @@ class Post(NamedTuple):
 class Operations:
     """Operations that go in together, as rows or as columns, and where each came from, by its place. `post` says whose batch it
     is where it is to be applied once, `terms` the names and units of a feed whose first batch it is, `feeder` who fed it, by
-    name, and `feed` of which followed feed it is, and to which place, as JSON."""
+    name, and `feed` of which followed feed it is, and to which place, as JSON. With `opens` they are no batch: a desk without
+    vertices opens with them, in one step that counts as so many batches."""
 
     def __init__(self, rows: Optional[Sequence[Row]] = None, columns: Optional[Numbered] = None,
                  place: Optional[Callable[[int], Place]] = None, post: Optional[Post] = None) -> None:
@@ -144,6 +149,7 @@ class Operations:
         self.terms: "Optional[Terms]" = None
         self.feeder: Optional[str] = None
         self.feed: Optional[str] = None
+        self.opens = 0
         self.size = len(rows) if rows is not None else len(columns.codes) if columns else 0
 
     @property
@@ -155,6 +161,11 @@ class Operations:
         if self._columns is None:
             self._columns = Numbered.of(self.rows)
         return self._columns
+
+    def known_after(self, names: Iterable[str], kinds: Iterable[str]) -> Tuple[int, int]:
+        """How many vertices and kinds there would be after the operations, with these from before."""
+        rows = [it for it in self.rows if it[0] < REMOVE]
+        return len({*names, *(it[2] for it in rows), *(it[3] for it in rows)}), len({*kinds, *(it[1] for it in rows)})
 
     @property
     def expires(self) -> bool:

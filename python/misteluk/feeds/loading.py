@@ -8,10 +8,12 @@ from typing import TYPE_CHECKING, Any, Iterator, List, Optional, Tuple
 from .limits import check, check_room
 from .feed import Path
 from .opening import ReadAs
+from .parts import Part
 from .progress import Progress
 from .rejects import Rejected
-from .surveys import Part, Survey, survey
+from .surveys import Survey, survey
 from ..engine.calling import MOST_AT_ONCE
+from ..engine.openings import as_batches, may_open
 from ..engine.operations import Operations
 from ..engine.protocol import LIBRARY
 from ..errors import NoAnswer, Place, PoolEmpty, Refused, Uncommitted, refusal
@@ -85,8 +87,8 @@ def load(store: "Store[Any, Any]", data: Any, *, by: str, batch: Optional[int] =
     finally:
         told.end()
     sending = time.monotonic() - sent
-    return Loaded(sum_of(receipts) if receipts else None, found, found.records(collect, len(receipts)), found.seconds + sending,
-                  sending)
+    done = sum_of(receipts) if receipts else None
+    return Loaded(done, found, found.records(collect, (done or NOTHING).batches), found.seconds + sending, sending)
 
 
 def most_joined(store: "Store[Any, Any]") -> int:
@@ -110,10 +112,14 @@ def _steps(store: "Store[Any, Any]", found: Survey, collect: bool, skip_bad: boo
     store._ledger.must_agree(found.terms.units)
     if not found.parts:
         store._ledger.take_terms(found.terms)
+    opened = _opened(store, found) if most > 1 and collect and found.parts and may_open(store._engine) else None
+    if opened is not None:
+        yield opened
+        return
     at = 0
     while at < len(found.parts):
         count = max(min(most, store.stat().free // records.MOST_OPERATIONS), 1) if most > 1 else 1
-        part = Part.joined(found.parts[at:at + count]) if count > 1 else found.parts[at]
+        part = found.parts.joined(at, min(at + count, len(found.parts)))
         try:
             receipt = _apply(store, found, part, at, collect)
         except Refused:
@@ -125,16 +131,29 @@ def _steps(store: "Store[Any, Any]", found: Survey, collect: bool, skip_bad: boo
         at += count
 
 
-def _apply(store: "Store[Any, Any]", found: Survey, part: Part, at: int, collect: bool) -> Commit:
-    """Applies one batch of a feed, that of this number or one that begins with it; a refusal says which lines are not in."""
+def _opened(store: "Store[Any, Any]", found: Survey) -> Optional[Tuple[Part, Commit]]:
+    """Has an empty store open with a whole feed in one step, as far as nobody can tell that from batches, and gives what they
+    would have done. Where it doesn't, batches say why."""
+    whole = found.parts.whole
+    opens = as_batches(store._engine, whole.columns)
+    try:
+        return (whole, _apply(store, found, whole, 0, True, opens)) if opens else None
+    except Refused:
+        return None
+
+
+def _apply(store: "Store[Any, Any]", found: Survey, part: Part, at: int, collect: bool, opens: int = 0) -> Commit:
+    """Applies one batch of a feed, that of this number or one that begins with it, or has a store open with the first ones; a
+    refusal says which lines are not in."""
     try:
         batch = Operations(columns=part.columns, place=lambda it: Place(found.feed, part.lines[it]))
+        batch.opens = opens
         return store._ledger.apply(batch, collect, (found.terms, found.kinds) if at == 0 else None)
     except NoAnswer as fault:
         raise NoAnswer(f"{fault}; lines {part.lines[0]} to {part.lines[-1]} of {found.feed} were sent, all before them are in, "
                        "and none behind them was sent") from fault
     except Refused as fault:
-        done = sum(len(it.lines) for it in found.parts[:at])
+        done = found.parts.before(at)
         text = (f"the batch of lines {part.lines[0]} to {part.lines[-1]} was refused, and neither it nor what comes behind it is "
                 f"in; {done} rows before it are")
         if isinstance(fault, PoolEmpty):

@@ -3,30 +3,29 @@ from __future__ import annotations
 
 import time
 from array import array
-from collections import Counter
 from dataclasses import dataclass
 from functools import cached_property, partial
-from itertools import compress, repeat
-from operator import lshift, or_, rshift
-from typing import Any, Dict, Iterable, Iterator, List, NamedTuple, Optional, Sequence, Set, Tuple
+from itertools import compress
+from typing import Any, Dict, Iterable, List, Optional, Sequence, Tuple
 
 from .advice import advise, as_written
 from .feed import ROWS_AT_ONCE, Block, Path, came_of, part_of, rows_of, turned
 from .opening import ReadAs, reads
+from .parts import Counted, Part, Parts, counted
 from .progress import Progress, no_collection
 from .rejects import Bin, Rejected, Rejects, rejected
 from .spans import shown_length
 from .terms import Terms
-from ..engine.operations import COMMANDS as OF_COMMANDS, Dictionary, Numbered, Operations
+from ..engine.operations import COMMANDS as OF_COMMANDS, Dictionary, Numbered
+from ..engine.protocol import A_FEW
 from ..errors import BadTime, Place, Refused
 from ..values import records
 from ..values.columns import FieldColumn
+from ..values.fields import numpy_for
 from ..values.units import Units
 
 
 COMMANDS = {"set": "i", "add": "a"}
-# More bits than a number of a name has.
-BITS = 32
 # How many faults are told of, beside the first of each rule.
 MOST_FAULTS = 10
 
@@ -36,74 +35,6 @@ def _now() -> int:
     return time.time_ns() // 1_000
 
 
-class Part(NamedTuple):
-    """A batch of a feed: its operations, and where each came from."""
-
-    columns: Numbered
-    lines: "array[int]"
-
-    @property
-    def text(self) -> bytes:
-        """Its records."""
-        return Operations(columns=self.columns).text
-
-    def some(self, rows: slice) -> "Part":
-        """A batch of some of the operations."""
-        return Part(self.columns.some(rows), self.lines[rows])
-
-    @staticmethod
-    def joined(parts: "Sequence[Part]") -> "Part":
-        """The operations of several batches of a feed, as one."""
-        first, *others = parts
-        columns, lines = first.columns.some(slice(None)), first.lines[:]
-        for it in others:
-            lines.extend(it.lines)
-            for column, more in zip(columns[:6], it.columns[:6]):
-                column.extend(more)
-        return Part(columns, lines)
-
-    def keys(self) -> "Iterator[int]":
-        """The edges by number: kind, source and target in one."""
-        ends = map(or_, map(lshift, self.columns.sources, repeat(BITS)), self.columns.targets)
-        if len(self.columns.of_kinds.numbers) == 1:
-            return ends
-        return map(or_, map(lshift, self.columns.kinds, repeat(2 * BITS)), ends)
-
-    def __repr__(self) -> str:
-        return f"<Part of {len(self.lines)} records>"
-
-
-class Need(NamedTuple):
-    """What a batch needs: as many free blocks as it has operations, beside those that the feed's edges before it take."""
-
-    before: int
-    operations: int
-
-    def beside(self, used: int) -> int:
-        """How many blocks the batch needs where so many are used already."""
-        return max(self.before, used) + self.operations
-
-
-class Counted(NamedTuple):
-    """How many edges parts have, and the blocks that these take; and what the last two batches need, since none before them needs
-    as many blocks: each has as many operations and less before it."""
-
-    edges: int
-    blocks: int
-    needs: List[Need]
-
-
-def counted(parts: Sequence[Part]) -> Counted:
-    edges: Set[int] = set()
-    for part in parts[:-2]:
-        edges.update(part.keys())
-    blocks, needs = Blocks(edges), []
-    for part in parts[-2:]:
-        needs.append(Need(blocks.count, len(part.lines)))
-        blocks.put(part.keys())
-    return Counted(len(blocks.edges), blocks.count, needs)
-
-
 @dataclass(frozen=True, repr=False)
 class Survey:
     """What a feed holds: checked, counted, and ready to be sent. Its edges and their blocks are counted once somebody asks. It
@@ -111,7 +42,7 @@ class Survey:
 
     feed: str
     by: str
-    parts: List[Part]
+    parts: Parts
     rows: int
     vertices: int
     kinds: List[str]
@@ -159,7 +90,7 @@ class Survey:
     @property
     def largest(self) -> int:
         """How many operations the largest batch has."""
-        return max((len(it.lines) for it in self.parts), default=0)
+        return max((end - self.parts.before(at) for at, end in enumerate(self.parts.ends)), default=0)
 
     def surely_fits(self, blocks: int, used: int = 0) -> bool:
         """Whether so many blocks, of which so many are used, are surely enough."""
@@ -168,7 +99,7 @@ class Survey:
     @property
     def times(self) -> Tuple[Any, Any]:
         """The first and the last time, in the units that the feed was counted in."""
-        times = [it for part in self.parts for it in part.columns.times] or [0]
+        times = self.parts.whole.columns.times or [0]
         return self.terms.units.time_to_user(min(times)), self.terms.units.time_to_user(max(times))
 
     def fitting(self) -> int:
@@ -192,23 +123,6 @@ class Survey:
         return f"<Survey of {self}>"
 
 
-class Blocks:
-    """How many blocks edges take. Those of one kind and source share them."""
-
-    def __init__(self, edges: Set[int]) -> None:
-        self.edges = edges
-        self._counts = Counter(map(rshift, edges, repeat(BITS)))
-
-    @property
-    def count(self) -> int:
-        return sum(-(-it // records.BLOCK_EDGES) for it in self._counts.values())
-
-    def put(self, keys: Iterable[int]) -> None:
-        new = set(keys).difference(self.edges)
-        self._counts.update(map(rshift, new, repeat(BITS)))
-        self.edges |= new
-
-
 class Count:
     """Checks rows, and makes batches of them. A loop over rows is one in C where it can be: there are many rows."""
 
@@ -217,9 +131,9 @@ class Count:
         self.terms, self.decimal = terms, decimal
         self.feed, self.by, self.command, self.batch = feed, by, COMMANDS[by], batch
         self.code = OF_COMMANDS.index(self.command)
-        self.parts: List[Part] = []
         self.of_kinds, self.of_names = Dictionary(), Dictionary()
-        self.filling = self._empty()
+        columns: Any = map(array, "BIIIqQ")
+        self.taken = Part(Numbered._make([*columns, self.of_kinds, self.of_names]), array("q"))
         self.bad = self.rows = 0
         self.faults: List[Refused] = []
         # How many rows break a rule, by its word and field.
@@ -230,10 +144,6 @@ class Count:
         self.ahead: Optional[int] = None
         # Another one whenever numbers of names aren't the same any more.
         self._whose = object()
-
-    def _empty(self) -> Part:
-        columns: Any = map(array, "BIIIqQ")
-        return Part(Numbered._make([*columns, self.of_kinds, self.of_names]), array("q"))
 
     def take(self, block: Block) -> None:
         """Counts rows, and puts those that can be taken into batches of `batch`: all at once, or a few at a time where some are
@@ -288,15 +198,11 @@ class Count:
         return None if "" in names else dictionary.column(names)
 
     def _fill(self, lines: Sequence[int], columns: Sequence[Any]) -> None:
-        """Puts rows into batches."""
-        self.filling.columns.codes.frombytes(bytes((self.code,)) * len(lines))
-        for column, values in zip(self.filling.columns[1:6], columns):
+        """Puts rows to those that were taken."""
+        self.taken.columns.codes.frombytes(bytes((self.code,)) * len(lines))
+        for column, values in zip(self.taken.columns[1:6], columns):
             column.extend(values)
-        self.filling.lines.extend(lines)
-        begins = range(0, len(self.filling.lines) - self.batch + 1, self.batch)
-        self.parts += [self.filling.some(slice(it, it + self.batch)) for it in begins]
-        if begins:
-            self.filling = self.filling.some(slice(begins[-1] + self.batch, None))
+        self.taken.lines.extend(_at_once(lines))
 
     def written(self, block: Block) -> Block:
         """The rows that can be taken, in the engine's terms; what is wrong with others is counted and told."""
@@ -355,12 +261,16 @@ class Count:
 
     def survey(self, joins: bool = False) -> Survey:
         """What was counted, when all rows were taken."""
-        if self.filling.lines:
-            self.parts.append(self.filling)
-            self.filling = self._empty()
         kinds = list(map(self.terms.names.to_user, self.of_kinds.names))
-        return Survey(self.feed, self.by, self.parts, self.rows, len(self.of_names.numbers), kinds, self.bad, self.fault_counts,
+        parts = Parts.of(self.taken, self.batch)
+        return Survey(self.feed, self.by, parts, self.rows, len(self.of_names.numbers), kinds, self.bad, self.fault_counts,
                       self.faults, time.monotonic() - self.begun, self.terms, joins, self.last_bad)
+
+
+def _at_once(lines: Sequence[int]) -> Iterable[int]:
+    """Lines that follow one another as an array, which an array takes at once, where numpy is worth it."""
+    numpy = numpy_for(len(lines), A_FEW) if isinstance(lines, range) else None
+    return lines if numpy is None else array("q", numpy.arange(lines[0], lines[-1] + 1, dtype="int64").tobytes())
 
 
 def must_be_way(by: str, batch: int) -> None:

@@ -13,9 +13,13 @@ from .columns import FieldColumn, NumbersOf, whole
 if TYPE_CHECKING:
     from .units import Units
 
-# From how many items on numpy is worth to be loaded; how many bytes a field may have that is compared in words of eight; and by
-# what a word is multiplied before the next one is mixed in.
-MANY, MOST_BYTES, MIX = 50_000, 64, 0x9E37_79B9_7F4A_7C15
+# From how many items on numpy is worth to be loaded; how many bytes a field may have that is compared in words of eight; by what
+# a word is multiplied before the next one is mixed in; and how often texts that fall together are tried once more.
+MANY, MOST_BYTES, MIX, MOST_TURNS = 50_000, 64, 0x9E37_79B9_7F4A_7C15, 12
+# Eight digits as one word: zeros; what makes a sign past nine have its top bit; and how digits become pairs of them, and so on.
+ZEROS, PAST_NINE, TOP_BITS = 0x3030_3030_3030_3030, 0x7676_7676_7676_7676, 0x8080_8080_8080_8080
+PAIRS = ((0x0F0F_0F0F_0F0F_0F0F, 10 << 8 | 1, 8), (0x00FF_00FF_00FF_00FF, 100 << 16 | 1, 16),
+         (0x0000_FFFF_0000_FFFF, 10_000 << 32 | 1, 32))
 _TO_BE_QUOTED = re.compile(r'[",\r\n]')
 
 
@@ -67,26 +71,26 @@ class Fields(FieldColumn):
         length = self._ends - self._begins
         if length.max() > MOST_BYTES:
             return numbers_of(self.texts)
-        keys = [length.astype("uint64"), *self._words(length)]
-        mixed = numpy.zeros(len(length), dtype="uint64")
-        for it in keys:
-            mixed = (mixed ^ it) * numpy.uint64(MIX)
-            mixed ^= mixed >> numpy.uint64(29)
-        _, first, same = numpy.unique(mixed, return_index=True, return_inverse=True)
-        if any((it[first][same] != it).any() for it in keys):  # (two texts were mixed to one number)
+        firsts = _firsts(numpy, [length.astype("uint64"), *self._words(length)])
+        if firsts is None:
             return numbers_of(self.texts)
-        order = numpy.argsort(first)  # (the one in which they came)
-        found = numbers_of(self._texts_at(first[order]))
+        new = numpy.flatnonzero(firsts == numpy.arange(len(firsts)))
+        found = numbers_of(self._texts_at(new))
         if found is None:
             return None
-        numbers = numpy.empty(len(order), dtype="uint32")
-        numbers[order] = numpy.asarray(found)
-        return array("I", numbers[same].tobytes())
+        numbers = numpy.empty(len(firsts), dtype="uint32")
+        numbers[new] = numpy.asarray(found)
+        return array("I", numbers[firsts].tobytes())
+
+    def _all_words(self) -> Any:
+        """The eight bytes that begin at each place."""
+        import numpy
+        return numpy.ndarray(len(self._data) - 7, "<u8", self._data, strides=(1,))
 
     def _words(self, length: Any) -> Iterator[Any]:
         """The bytes of each field, eight at once, with zeros behind its end."""
         import numpy
-        words: Any = numpy.ndarray(len(self._data) - 7, "<u8", self._data, strides=(1,))
+        words = self._all_words()
         masks = numpy.array([(1 << 8 * it) - 1 for it in range(9)], dtype="uint64")
         for at in range(0, int(length.max()), 8):
             yield words[self._begins + at] & masks[numpy.clip(length - at, 0, 8)]
@@ -102,14 +106,52 @@ class Fields(FieldColumn):
         begins = begins + is_less
         if (ends <= begins).any():
             return None
-        found = numpy.zeros(len(begins), dtype="int64")
-        for at in range(int((ends - begins).max())):
-            within = begins + at < ends
-            signs = self._data[begins + at].astype("int64") - ord("0")
-            if (within & ((signs < 0) | (signs > 9))).any():
+        found, words = numpy.zeros(len(begins), dtype="uint64"), self._all_words()
+        for at in range(0, int((ends - begins).max()), 8):  # (the last eight signs of each, then those before)
+            first = numpy.maximum(ends - (at + 8), begins)
+            part = _eight(numpy, words[numpy.minimum(first, ends)], numpy.clip(ends - at - first, 0, 8))
+            if part is None:
                 return None
-            found = numpy.where(within, found * 10 + signs, found)
+            found += part * numpy.uint64(10 ** at)
+        found = found.astype("int64")
         return array(code, numpy.where(is_less, -found, found).tobytes())
+
+
+def _eight(numpy: Any, words: Any, length: Any) -> Any:
+    """The numbers that the first signs of words are, so many of each; `None` where one of these is no digit."""
+    # Zeros come before the digits; twice, since no word is moved by all its bits at once.
+    half = (32 - 4 * length).astype("uint64")
+    zeros = numpy.array([ZEROS >> 8 * it if it < 8 else 0 for it in range(9)], dtype="uint64")
+    words = (words << half << half | zeros[length]) ^ numpy.uint64(ZEROS)
+    if ((words + numpy.uint64(PAST_NINE) | words) & numpy.uint64(TOP_BITS)).any():
+        return None
+    for mask, factor, bits in PAIRS:  # (digits become pairs, fours, and the whole)
+        words = (words & numpy.uint64(mask)) * numpy.uint64(factor) >> numpy.uint64(bits)
+    return words
+
+
+def _firsts(numpy: Any, keys: List[Any]) -> Any:
+    """For each row the first one that has all keys the same. Rows are put into a table by a number that is mixed of the keys;
+    those whose place there another key has go into another place in the next turn. `None` where many turns aren't enough, and
+    where numpy, which promises no order of such an assignment, doesn't put the first row of a place last."""
+    count = len(keys[0])
+    mixed, left = numpy.zeros(count, dtype="uint64"), numpy.arange(count)
+    for it in keys:
+        mixed = (mixed ^ it) * numpy.uint64(MIX)
+        mixed ^= mixed >> numpy.uint64(29)
+    bits = (2 * count).bit_length()
+    table, firsts = numpy.empty(1 << bits, dtype="int64"), numpy.arange(count)
+    for _ in range(MOST_TURNS):
+        places = (mixed >> numpy.uint64(64 - bits)).astype("int64")
+        table[places[::-1]] = left[::-1]
+        found = table[places]
+        is_same = numpy.logical_and.reduce([it[found] == it[left] for it in keys])
+        firsts[left[is_same]] = found[is_same]
+        left, mixed = left[~is_same], mixed[~is_same] * numpy.uint64(MIX)
+        if not len(left):
+            return firsts if (firsts <= numpy.arange(count)).all() else None
+        mixed ^= mixed >> numpy.uint64(31)
+    return None
 
 
 def fields_of_csv(texts: Sequence[str]) -> Sequence[str]:
