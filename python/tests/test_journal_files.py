@@ -123,6 +123,14 @@ class Opened(JournalCase):
         with Store(self.path) as store, store.open() as session:
             self.assertEqual({it[1] for it in session.edges()}, {"Анна", "Иванов Пётр", "Ж Ж", "Д Д"})
 
+    def test_limits_are_kept(self):
+        """Those that were said last, also where nothing was committed."""
+        for said, vertices in ((None, None), (Limits(vertices=50), 50), (None, 50), (Limits(vertices=60, kinds=3), 60),
+                               (None, 60)):
+            with Store(self.path, **({} if said is None else {"limits": said})) as store:
+                self.assertEqual((store._engine.limits.vertices, store._engine.settings.vertices), (vertices, vertices))
+        self.assertEqual((store._engine.settings.kinds, store._engine.settings.batches), (3, None))
+
     def test_units_are_kept(self):
         with Store(self.path) as store:
             store.load([("a", "b", "1.50", 1)], by="set", units=Units(weight_scale=100))
@@ -277,6 +285,21 @@ class Faults(JournalCase):
     @staticmethod
     def raised(fault):
         raise fault
+
+    def test_a_batch_that_an_interrupt_broke_off(self):
+        """The file says whether it is in: one that was written is, with what came with it, and one that wasn't isn't."""
+        for of, name, is_in in ((WaitingEngine, "finish", True), (WaitingEngine, "begin", False)):
+            self.path = str(self.room / f"{name}.db")
+            store = self.fed(2)
+            with mock.patch.object(of, name, side_effect=KeyboardInterrupt), self.assertRaises(KeyboardInterrupt):
+                put(store, [("insert", "k", "Анна", "b", 1, 1)], producer="other", sequence=7)
+            done = store.commit()
+            self.assertEqual((done.version, done.inserted, store.stat().edges), (3, 1, len(Model().upto(2).edges) + 1))
+            self.assertEqual((store.file.last_sequence("other"), store.pending), (7 if is_in else None, 0))
+            store.close()
+            self.assertEqual(check(self.path).faults, [])
+            with Store(self.path) as store, store.open() as session:
+                self.assertEqual((session.edge("k", "Анна", "b").weight, session.version), (1, 3))
 
     def test_pages_are_given_back(self):
         store = self.fed(12)

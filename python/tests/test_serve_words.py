@@ -40,7 +40,8 @@ class Words(Case):
             self.assertEqual((words.path, words.file), (path, feed), said)
         replica = "--replica-of FILE is all that a replica is made of"
         for said, told in (((text,), "isn't a store's file, and a feed wants --set or --add"),
-                           ((new, text), "a feed wants --set or --add"), ((new, "--save", "s"), "--save is for a store that is in"),
+                           ((new, text), "a feed wants --set or --add"),
+                           ((new, "--save", "s"), "--save is for a store that is in memory"),
                            (("--sync", "off"), "--sync and --history are for a store's file"),
                            (("--history", "3"), "--sync and --history are for a store's file"),
                            ((text, "--add", "--sync", "full"), "--sync and --history are for a store's file"),
@@ -108,7 +109,8 @@ class Words(Case):
             serve.take_files(words)
             found = list(serve.feeds_of(store, words, {"by": "add"}))
             self.assertEqual((len(found), store.follow.call_args), (1, mock.call(words.file, until_end=False, **pace)), said)
-            self.assertEqual((recipe._replace.call_args, found[0].recipe), (mock.call(rotates=False), recipe._replace.return_value))
+            self.assertEqual(found[0].recipe, recipe._replace.return_value)
+            recipe._replace.assert_called_with(rotates=False)
         words = self.words(str(self.room / "new.db"), text, "--add")
         serve.take_files(words)
         mark = mock.Mock(**{"rest.side_effect": ["feed.csv.1", None]})
