@@ -1,6 +1,7 @@
 """What a store's file is by small parts, in rows: heads, bases, locks, a damaged -wal, what a fault of SQLite means."""
 import contextlib
 import datetime
+import json
 import os
 import shutil
 import sqlite3
@@ -12,12 +13,13 @@ from journaled import JournalCase, Model, batch, of_sqlite, put, told
 from support import row
 
 from misteluk import Columns, Limits, Store, Units, survey
+from misteluk.engine.protocol import WHOLE
 from misteluk.engine.waiting import WaitingEngine
 from misteluk.errors import JournalFault, NotWritten, OverLimit
 from misteluk.journal import checking, journal, tables
 from misteluk.journal.checking import check
 from misteluk.journal.logs import log
-from misteluk.journal.replica import FirstFile
+from misteluk.journal.replica import FirstFile, begun, read_added, told_added, told_base
 from misteluk.journal.tables import Head
 from misteluk.journal.wal import commits_lost
 
@@ -138,6 +140,26 @@ class Opened(JournalCase):
             self.assertEqual(store.units.weight_scale, 100)
         with Store.at(self.path, version=1) as then:
             self.assertEqual((then.units.weight_scale, str(next(iter(then.open().edges()))[3].weight)), (100, "1.50"))
+
+
+    def test_what_a_server_s_replica_is_told(self):
+        """Batches and bases as JSON, from which the same graph comes; nothing where a loss of power may take it back."""
+        store = self.opened(sync="full")
+        for number in range(1, 6):
+            put(store, batch(number), producer="feed", sequence=number)
+        engine = store._engine
+        added = read_added(json.loads(json.dumps(told_added(engine, 2))))
+        self.assertEqual((added.rows, added.newest, added.settings), (engine.some_rows(2, 5), 5, engine.settings))
+        self.assertEqual([it.version for it in added.rows], [3, 4, 5])
+        self.assertEqual((told_added(engine, 5)["rows"], told_base(engine)["base"]), ([], None))
+        store.file.compact()
+        state, settings = begun(json.loads(json.dumps(told_base(engine))), 2)
+        with contextlib.closing(state.engine), contextlib.closing(state.engine.hold(None)) as held:
+            self.assertEqual((held.number, held.edges(WHOLE).size, settings), (5, len(Model().upto(5).edges), engine.settings))
+            self.assertEqual((held.names(), state.sources), (list(Model().upto(5).names), engine.state.sources))
+        engine._journal.sync = "normal"
+        for call in (told_base, lambda it: told_added(it, 1)):
+            self.assertRaisesRegex(JournalFault, "sync=normal", call, engine)
 
 
 class Locks(JournalCase):

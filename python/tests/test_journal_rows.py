@@ -139,7 +139,8 @@ class Writers(unittest.TestCase):
         insert, add, quoted = (0, "k", "a", "b", -5, 7), (1, "k", "a", "c", 2, 8), (0, "k", 'a"', "b", 1, 1)
         remove, expire = (2, "k", "a", "b", 0, 0), (3, "", "", "", 0, 9)
         for rows, text in (([insert], b"i,k,a,b,-5,7\n"), ([add], b"a,k,a,c,2,8\n"), ([remove], b"r,k,a,b\n"),
-                           ([expire], b"x,9\n"), ([insert, add], b"i,k,a,b,-5,7\na,k,a,c,2,8\n"), ([remove, expire], b"r,k,a,b\nx,9\n"),
+                           ([expire], b"x,9\n"), ([insert, add], b"i,k,a,b,-5,7\na,k,a,c,2,8\n"),
+                           ([remove, expire], b"r,k,a,b\nx,9\n"),
                            ([quoted, add], b'i,k,"a""",b,1,1\na,k,a,c,2,8\n'),
                            ([insert, expire, remove, add], b"i,k,a,b,-5,7\nx,9\nr,k,a,b\na,k,a,c,2,8\n")):
             self.assertEqual(scripts.Writer().records_of(Operations(rows)), text)
