@@ -218,6 +218,11 @@ class Commands(CommandCase):
             os.close(reader)
             self.assertEqual((process.communicate(timeout=60)[1], process.returncode), (b"", 141), words)
 
+    def test_doctor(self):
+        status, out, err = self.run_it("doctor")
+        self.assertEqual((status, err), (0, ""))
+        self.assertRegex(out, r"\na store of 65536 blocks and 2 seats answers\n")
+
     def test_interactive(self):
         words = ("load", self.file("p.csv", PAIRS), *OF_PAIRS, "--add", "--interactive")
         done = subprocess.run([sys.executable, "-m", "misteluk", *words], stdout=subprocess.PIPE, stderr=subprocess.PIPE,
@@ -238,8 +243,10 @@ class Commands(CommandCase):
             page = self.around("2 hops, up to 12 beside the whole file: 4 vertices; 0 gone, 0 new, 1 changed, 2 kept edges",
                                "--at", "12", "--batch", batch)
             self.assertIn("<h2>Before: up to 12</h2>", page)
-            self.around("2 hops, up to line 3 beside the whole file: 4 vertices; 0 gone, 1 new, 1 changed, 1 kept edges",
-                        "--at-line", "3", "--batch", batch)
+            for line, kinds in (("2", "2 new, 1 changed, 0 kept"), ("3", "1 new, 1 changed, 1 kept"),
+                                ("4", "0 new, 1 changed, 2 kept")):
+                self.around(f"2 hops, up to line {line} beside the whole file: 4 vertices; 0 gone, {kinds} edges",
+                            "--at-line", line, "--batch", batch)
         page = self.around("2 hops, up to 12 beside the whole file: 4 vertices; 0 gone, 0 new, 1 changed, 2 kept edges", "--at",
                            "12", "--most", "2", "--title", "T", rows=PAIRS.replace("12", "9"))
         self.assertIn("<h1>T</h1>", page)

@@ -198,6 +198,11 @@ class FollowCommand(Case):
                 self.assertEqual((stop.call_count, signal.getsignal(signal.SIGTERM)), (1, signal.SIG_DFL))
                 clock.return_value = 100.125
             self.assertAlmostEqual(rest.call_args[0][0], 0.075)
+            with follow.ended_by_signals(stop, -1):
+                hear = signal.getsignal(signal.SIGTERM)
+                for clock.return_value in (0.0, follow.AT_ONCE):
+                    hear(signal.SIGTERM, None)
+            self.assertEqual((stop.call_count, kill.call_count, rest.call_args), (2, 1, mock.call(0.0)))
         self.assertEqual({it: signal.getsignal(it) for it in follow.SIGNALS}, before)
 
     def test_two_signals_at_once_are_one(self):

@@ -69,7 +69,9 @@ class Answers(ServeCase):
                 (400, "BadRequest", "/v1/levels?sorce=ana"), (400, "BadRequest", "/v1/levels?source=ana&source=ben"),
                 (400, "BadRequest", "/v1/within?vertex=ana&hops=-1"), (400, "BadRequest", "/v1/degrees?top=2&by=height"),
                 (404, "NoCall", "/v1/sql?q=1"), (404, "NoCall", "/etc/passwd"), (410, "SessionClosed", "/v1/cores?session=zed"),
-                (410, "SessionClosed", "/v1/cores?version=77"), (400, "BadName", "/v1/edge?kind=*&source=ana&target=ben")):
+                (410, "SessionClosed", "/v1/cores?version=77"),
+                (410, "SessionClosed", f"/v1/cores?version={(1 << 63) - 1}"), (400, "BadRequest", f"/v1/cores?version={10**19}"),
+                (400, "BadName", "/v1/edge?kind=*&source=ana&target=ben")):
             found = self.ask(path)
             self.assertEqual((found.status, found.json["error"]), (status, word), path)
             self.assertFalse(self.rooms_of(found.json["reason"]), found.body)
@@ -276,7 +278,7 @@ class Feeds(ServeCase):
         forged = {"operations": "a,k,~~AAAAAAAAAAAAAAAAAAAA,y,5,1\n", "texts": {"~~AAAAAAAAAAAAAAAAAAAA": "Иванов Пётр"}}
         self.assertEqual(self.post(f"/v1/feeder/{seat}/batches/1", forged).json["error"], "BadName")
         for text in ("commit\n", "open,0\n", "a,k,x,y,5,1", "a,k,x y,z,5,1\n", "a,k,x,y,5\n", "a,k,x\x1cy,z,5,1\n",
-                     'a,k,"x,y,5,1\n',
+                     'a,k,"x,y,5,1\n', "a,*,x,y,5,1\n", "i,k,x,y,5,1\na,*,x,y,5,1\n",
                      "\n", "i,k,x,y,9223372036854775807,1\n", "x,-1\n"):
             self.assertRaises(misteluk.Refused, checked_operations, text)
             self.assertEqual(self.post(f"/v1/feeder/{seat}/batches/1", {"operations": text}).status, 400, text)

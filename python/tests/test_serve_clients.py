@@ -150,10 +150,11 @@ class Doors(ServeCase):
         held, session._held = session._held, Slow(session._held, gate)
         self.addCleanup(setattr, session, "held", held)
         found = self.ask("/v1/cores")
-        self.assertEqual((found.status, found.json["error"]), (503, "TooLong"))
-        self.assertEqual(self.ask("/v1/stat").status, 200)
+        self.assertEqual((found.status, found.json["error"], found.json["retry_after"]), (503, "TooLong", 1))
+        self.assertEqual((self.ask("/v1/stat").status, self.server.is_asked), (200, True))
         gate.set()
         as_soon_as(lambda: not self.server.board._last.is_needed)
+        as_soon_as(lambda: not self.server.is_asked)
 
     def test_headers_of_each_response(self):
         self.fed()

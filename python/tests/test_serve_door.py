@@ -205,8 +205,8 @@ class Loop:
         return self.timers[-1]
 
 
-class Rows(unittest.TestCase):
-    """The same by steps, without a server."""
+class BySteps(unittest.TestCase):
+    """The same without a server."""
 
     def setUp(self):
         self.loop, self.door = Loop(), Door(3)

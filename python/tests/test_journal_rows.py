@@ -1,0 +1,182 @@
+"""What a store's file does apart from SQLite, in rows: who sent what, when a compaction is due, how batches are written."""
+import datetime
+import unittest
+from unittest import mock
+
+from support import Case
+
+from misteluk import Limits
+from misteluk.engine.operations import Operations, Post
+from misteluk.errors import JournalFault, SequenceTaken
+from misteluk.journal import beside, scripts
+from misteluk.journal.beside import Beside
+from misteluk.journal.opening import make_engine
+from misteluk.journal.passing import Passing
+from misteluk.journal.recovery import State
+from misteluk.journal.replica import Added, Copy
+from misteluk.journal.sources import Sources
+from misteluk.journal.tables import Settings, Written
+from misteluk.values.answers import Commit
+
+HOUR = 3_600.0
+
+
+class Sent(Case):
+    """Who sent what, without a file."""
+
+    FIRST, OTHER = Commit(1, 1, 0, 0, 0, 0), Commit(2, 0, 1, 0, 0, 0)
+
+    def written(self, version, records, producer=None, sequence=None, feeder=None, feed=None):
+        return Written(version, 0, 1, records, None, 0, producer, sequence, feeder, feed)
+
+    def test_numbers(self):
+        for number in (0, 1, 7):
+            sources = Sources()
+            self.assertIsNone(sources.first_answer(Post("a", number), None, b"x"))
+            sources.take(self.written(1, b"x", "a", number), self.FIRST)
+            for records in (b"x", None):
+                self.assertEqual(sources.first_answer(Post("a", number), None, records), self.FIRST)
+            for post in (Post("a", number + 1), Post("b", number), Post("b", 0)):
+                self.assertIsNone(sources.first_answer(post, None, b"x"), post)
+            with self.assertRaisesRegex(SequenceTaken, f"a has sent another batch as {number}$") as caught:
+                sources.first_answer(Post("a", number), None, b"y")
+            self.assertEqual(caught.exception.last, number)
+            if number:
+                with self.assertRaisesRegex(SequenceTaken, f"a has sent {number} by now") as caught:
+                    sources.first_answer(Post("a", number - 1), None, b"x")
+                self.assertEqual(caught.exception.last, number)
+
+    def test_keys(self):
+        """One of each who feeds; no number and no producer of this name has to do with it."""
+        sources = Sources()
+        sources.take(self.written(1, b"x", "one", None, "ana"), self.FIRST)
+        sources.take(self.written(2, b"y", "one", None, None), self.OTHER)
+        self.assertEqual(sources.first_answer(Post("one", None), "ana", b"x"), self.FIRST)
+        self.assertEqual(sources.first_answer(Post("one", None), None, b"y"), self.OTHER)
+        for post, feeder in ((Post("one", None), "ben"), (Post("two", None), "ana"), (Post("one", 0), "ana"),
+                             (Post("one", 0), None)):
+            self.assertIsNone(sources.first_answer(post, feeder, b"x"), (post, feeder))
+        with self.assertRaisesRegex(SequenceTaken, "one has sent another batch by this key"):
+            sources.first_answer(Post("one", None), "ana", b"z")
+
+    def test_the_last_keys_are_known(self):
+        sources = Sources()
+        with mock.patch("misteluk.journal.sources.MOST_KEYS", 3):
+            for at in range(5):
+                sources.take(self.written(at, b"x", f"key {at}"), self.FIRST)
+        self.assertEqual([it for _, it in sources.keys], ["key 2", "key 3", "key 4"])
+
+    def test_feeds(self):
+        sources = Sources()
+        sources.take(self.written(1, b"x"), self.FIRST)
+        self.assertEqual(sources, Sources())
+        sources.take(self.written(1, b"x", feed='["a.csv", 5]'), self.FIRST)
+        sources.take(self.written(2, b"x", "p", 1, feed='["b.csv", 7]'), self.FIRST)
+        sources.take(self.written(3, b"x", feed='["a.csv", 6]'), self.FIRST)
+        self.assertEqual((sources.feeds, list(sources.producers)), ({"a.csv": '["a.csv", 6]', "b.csv": '["b.csv", 7]'}, ["p"]))
+        self.assertEqual(Sources.read(sources.written()), sources)
+
+
+class Due(unittest.TestCase):
+    """When a store compacts its file by itself."""
+
+    def beside(self, history=None, edges=0, since=0.0, behind=0):
+        self.made, self.now = [], since
+        return Beside(lambda history: self.made.append(history), lambda: edges, history, since, behind)
+
+    def counts(self, it, *operations):
+        """How many compactions there were behind each of these batches."""
+        found = []
+        with mock.patch("time.time", lambda: self.now):
+            for count in operations:
+                it.grew(count)
+                it.join()
+                found.append(len(self.made))
+        return found
+
+    def test_by_operations(self):
+        self.assertEqual(beside.LEAST_OPERATIONS, 250_000)
+        self.assertEqual(self.counts(self.beside(), 249_999, 1, 249_999, 1, 1, 249_998, 1), [0, 1, 1, 2, 2, 2, 3])
+        self.assertEqual(self.counts(self.beside(edges=300_000), 250_000, 49_999, 1, 299_999, 1), [0, 0, 1, 1, 2])
+        self.assertEqual(self.counts(self.beside(edges=10, behind=249_990), 9, 1), [0, 1])
+
+    def test_by_time(self):
+        """Behind each quarter of the history, and at most once a minute; never where nothing came in."""
+        for history, seconds in ((datetime.timedelta(hours=4), HOUR), (datetime.timedelta(seconds=10), 60.0)):
+            it = self.beside(history, since=1_000.0)
+            for after, count in ((seconds - 1, 0), (seconds, 1), (seconds + 1, 1), (2 * seconds - 1, 1), (2 * seconds, 2)):
+                self.now = 1_000.0 + after
+                self.assertEqual(self.counts(it, 1), [count], (history, after))
+            self.now += 9 * seconds
+            self.assertEqual(self.counts(it, 0, 1), [2, 3])
+            self.assertEqual(self.made, [history] * 3)
+        it = self.beside(history=5)
+        self.now = 1e9
+        self.assertEqual(self.counts(it, 1, 1), [0, 0])
+
+    def test_one_at_a_time(self):
+        it = self.beside()
+        it._thread = mock.Mock()
+        it._thread.is_alive.return_value = True
+        self.assertEqual(self.counts(it, 250_000), [0])
+        it._thread.is_alive.return_value = False
+        self.assertEqual(self.counts(it, 1), [1])
+
+
+class Writers(unittest.TestCase):
+    def test_names_that_are_known(self):
+        """They are let go where they are many, and written the same then."""
+        writer, known = scripts.Writer(), []
+        one, two = ((0, "k", "k", 'b"', 1, 1), b'i,k,k,"b""",1,1\n'), ((0, "c", "c", "c", 2, 2), b"i,c,c,c,2,2\n")
+        with mock.patch.object(scripts, "MOST_KNOWN", 2):
+            for it, text in (one, one, two, one):
+                self.assertEqual(writer.records_of(Operations([it])), text)
+                known.append(len(writer._quoted))
+        self.assertEqual(known, [2, 2, 3, 2])
+
+    def test_records_and_back(self):
+        """Each operation, alone and with others, and names that want quotes."""
+        insert, add, quoted = (0, "k", "a", "b", -5, 7), (1, "k", "a", "c", 2, 8), (0, "k", 'a"', "b", 1, 1)
+        remove, expire = (2, "k", "a", "b", 0, 0), (3, "", "", "", 0, 9)
+        for rows, text in (([insert], b"i,k,a,b,-5,7\n"), ([add], b"a,k,a,c,2,8\n"), ([remove], b"r,k,a,b\n"),
+                           ([expire], b"x,9\n"), ([insert, add], b"i,k,a,b,-5,7\na,k,a,c,2,8\n"),
+                           ([remove, expire], b"r,k,a,b\nx,9\n"),
+                           ([quoted, add], b'i,k,"a""",b,1,1\na,k,a,c,2,8\n'),
+                           ([insert, expire, remove, add], b"i,k,a,b,-5,7\nx,9\nr,k,a,b\na,k,a,c,2,8\n")):
+            self.assertEqual(scripts.Writer().records_of(Operations(rows)), text)
+            self.assertEqual([tuple(it) for it in scripts.operations_of(text).rows], rows)
+
+
+class Engines(unittest.TestCase):
+    def test_what_is_passed_on(self):
+        """Each call and value of an engine is that of the one within."""
+        inner = mock.Mock()
+        passing = Passing(inner)
+        for name in ("name", "most_blocks", "seats", "grows", "limits", "feeds", "blocks", "open_count", "has_ended",
+                     "is_elsewhere", "operations_kept"):
+            self.assertIs(getattr(passing, name), getattr(inner, name), name)
+        for name in ("seats", "grows", "limits"):
+            setattr(passing, name, name)
+            self.assertEqual(getattr(inner, name), name)
+        for name, *given in (("told",), ("flight", 1, True), ("fly", 2), ("landed", 3), ("stat",), ("collect",), ("hold", 4),
+                             ("rebase", 5), ("renew",)):
+            self.assertIs(getattr(passing, name)(*given), getattr(inner, name).return_value, name)
+            getattr(inner, name).assert_called_once_with(*given)
+        for name, *given in (("fit", 1, 2, 3), ("close",)):
+            self.assertIsNone(getattr(passing, name)(*given))
+            getattr(inner, name).assert_called_once_with(*given)
+
+    def test_a_copy(self):
+        """It takes settings without batches; and nothing of a first one that has less."""
+        state = State(make_engine(Limits(), None, 1, False))
+        self.addCleanup(state.engine.close)
+        copy, settings = Copy(state, Settings()), Settings(weight_scale=100)
+        copy.take(Added([], 0, settings))
+        self.assertEqual(copy.settings, settings)
+        state.version = 3
+        self.assertRaisesRegex(JournalFault, "the first has version 2 only, and had 3", copy.take, Added([], 2, Settings()))
+        self.assertEqual(copy.settings, settings)
+
+
+if __name__ == "__main__":
+    unittest.main()

@@ -1,0 +1,209 @@
+"""Parts of a server by steps: its health, those who await a version, which threads answer what, how uvicorn is told to run."""
+import asyncio
+import threading
+import time
+import unittest
+from unittest import mock
+
+from serving import HAS_PACKAGES, NO_PACKAGES, ServeCase
+
+from misteluk import Stat
+from misteluk.errors import NotWritten
+from misteluk.journal.compaction import FileCompacted
+from misteluk.journal.engine import Journaled
+from misteluk.journal.file import Kept
+from misteluk.serve.board import HeldVersion
+from misteluk.serve.health import Health
+from misteluk.serve.limits import ServerLimits
+from misteluk.serve.metrics import Counts
+
+if HAS_PACKAGES:
+    from misteluk.serve.flow import within
+    from misteluk.serve.news import Bell, known_of
+    from misteluk.serve.board import Full
+
+FED = {"rows": 7, "bad": 2, "expired": 3, "behind": 11, "state": "followed"}
+
+
+class Healths(unittest.TestCase):
+    def health(self, feeding=(), keeper=None, replica=None, engine=None):
+        """The health of a server that is well but for what is given."""
+        fed = mock.Mock(**{"state": "followed", "is_reading": False, **dict(feeding)})
+        fed.told.return_value = FED
+        fed.store._engine = engine or mock.Mock(has_ended=False)
+        board = mock.Mock(stat=Stat(5, 4, 3, 20, 8, 9))
+        board.held.return_value = [HeldVersion(3, 2, 1, False), HeldVersion(4, 3, 2, False), HeldVersion(5, 4, 0, True)]
+        return Health(board, fed, keeper, Counts(), mock.Mock(count=6, refused=1), replica)
+
+    def test_why_it_is_not_ready(self):
+        late, well = mock.Mock(is_late=True), mock.Mock(is_late=False)
+        for given, told in (
+                ({}, []), ({"keeper": well}, []), ({"replica": mock.Mock(fault="")}, []),
+                ({"keeper": late}, ["a save is late, or failed"]), ({"feeding": {"state": "failed"}}, ["the feed failed"]),
+                ({"feeding": {"is_reading": True}}, ["the feed's file is still read for the first time"]),
+                ({"feeding": {"state": "ended"}}, []),
+                ({"replica": mock.Mock(fault="x")}, ["the first, whose replica this is, can't be read"]),
+                ({"engine": mock.Mock(has_ended=True)},
+                 ["the store's file takes nothing more until the server is started again"])):
+            self.assertEqual(self.health(**given).faults(), told, given)
+
+    def of_file(self, compacted, fault):
+        engine = mock.Mock(spec=Journaled, has_ended=False)
+        health = self.health(engine=engine)
+        health._feeding.store.file.kept = Kept(3, 9, 77, compacted, fault)
+        return health
+
+    def test_a_file(self):
+        self.assertIsNone(self.health().of_file())
+        self.assertEqual(self.of_file(None, None).of_file(), {"oldest": 3, "bytes": 77})
+        self.assertEqual(self.of_file(FileCompacted(5, 60, 3, 2), NotWritten("at /tmp/x")).of_file(),
+                         {"oldest": 3, "bytes": 77, "base": 5, "fault": "NotWritten"})
+
+    def numbers(self, health):
+        lines = [it.split() for it in health.text().splitlines() if not it.startswith("#")]
+        return {name.partition("misteluk_")[2]: float(value) for name, value in lines}
+
+    def test_numbers(self):
+        found = self.numbers(self.health())
+        for name in ("memory_bytes", "processor_seconds_total"):
+            self.assertGreater(found.pop(name), 0)
+        (info, one), = [it for it in found.items() if it[0].startswith("info{version=")]
+        del found[info]
+        self.assertEqual((one, found), (1, {
+            "version": 5, "vertices": 4, "edges": 3, "versions_held": 2, "sessions": 3, 'blocks{state="used"}': 9,
+            'blocks{state="free"}': 20, 'blocks{state="retired"}': 8, "rows_total": 7, "bad_rows_total": 2,
+            "expired_edges_total": 3, "behind_bytes": 11, "feed_failed": 0, "connections": 6, "connections_refused_total": 1}))
+        self.assertEqual((self.numbers(self.of_file(None, None))["file_bytes"],
+                          self.numbers(self.of_file(None, None))["file_oldest_version"]), (77, 3))
+
+    def test_numbers_of_a_save_and_of_a_replica(self):
+        for more, failed in (({}, 0), ({"error": "OSError"}, 1)):
+            keeper = mock.Mock(took=0.5)
+            keeper.told.return_value = {"version": 4, "seconds": 2.5, **more}
+            found = self.numbers(self.health(keeper=keeper))
+            self.assertEqual([found[it] for it in ("saved_version", "saved_age_seconds", "save_seconds", "save_failed")],
+                             [4, 2.5, 0.5, failed])
+        replica = mock.Mock()
+        replica.told.return_value = {"behind": 3, "seconds": 1.5}
+        found = self.numbers(self.health(replica=replica))
+        self.assertEqual((found["replica_behind_versions"], found["replica_behind_seconds"]), (3, 1.5))
+
+
+@unittest.skipUnless(HAS_PACKAGES, NO_PACKAGES)
+class Bells(unittest.TestCase):
+    """Those who wait for a bell are woken long before their time is over."""
+
+    def waits(self, bell, is_there, seconds=60.0, gone=None, later=None):
+        """For how long one waits, where something comes a little later from another thread."""
+        async def wait():
+            left = None if gone is None else asyncio.get_running_loop().create_future()
+            if left is not None:
+                asyncio.get_running_loop().call_later(gone, left.set_result, None)
+            await bell.until(is_there, seconds, left)
+        thread = threading.Timer(0.1, later or (lambda: None))
+        begun = time.monotonic()
+        thread.start()
+        asyncio.run(wait())
+        found = time.monotonic() - begun
+        thread.join()
+        self.assertEqual(bell._waiting, set())
+        return found
+
+    def test_what_ends_a_wait(self):
+        bell, rung = Bell(), []
+        self.assertLess(self.waits(bell, lambda: True), 30)
+        self.assertTrue(0.05 < self.waits(bell, lambda: rung, later=lambda: (rung.append(1), bell.ring())) < 30)
+        self.assertTrue(0.05 < self.waits(bell, lambda: False, 0.06) < 30)
+        self.assertTrue(0.05 < self.waits(bell, lambda: False, gone=0.06) < 30)
+        self.assertTrue(0.05 < self.waits(bell, lambda: False, later=bell.close) < 30)
+        self.assertTrue(bell.is_over)
+        self.assertLess(self.waits(bell, lambda: False), 30)
+        bell.ring()  # (the loop is closed by now)
+
+    def test_a_ring_for_nothing(self):
+        """Who waits goes on where what it waits for isn't there yet."""
+        bell = Bell()
+        self.assertTrue(0.2 < self.waits(bell, lambda: False, 0.25, later=bell.ring) < 30)
+
+    def test_what_a_reader_knows(self):
+        for text, known in (("run:7", 7), ("run:0", 0), ("run:" + "9" * 19, 10**19 - 1), ("run:" + "1" * 20, -1), ("run:", -1),
+                            ("run", -1), ("other:7", -1), ("run:-7", -1), ("run:\u0667", -1), ("run:7:8", -1), (None, -1)):
+            request = mock.Mock(headers={} if text is None else {"last-event-id": text})
+            self.assertEqual(known_of(request, "run"), known, text)
+
+    def test_what_is_late(self):
+        async def late():
+            async with within(0.01, "why"):
+                await asyncio.sleep(60)
+
+        async def other(fault):
+            async with within(60, "why"):
+                raise fault
+        with self.assertRaises(Full) as caught:
+            asyncio.run(late())
+        self.assertEqual((caught.exception.word, str(caught.exception), caught.exception.after), ("TooLong", "why", 1))
+        for fault in (KeyError, asyncio.CancelledError):
+            with self.assertRaises(fault):
+                asyncio.run(other(fault()))
+
+
+class Running(ServeCase):
+    def test_how_uvicorn_is_told_to_run(self):
+        config = self.serve(limits=ServerLimits(idle=7.5))._runner.config
+        self.assertEqual((config.access_log, config.server_header, config.proxy_headers), (False, False, False))
+        self.assertEqual((config.timeout_keep_alive, config.backlog, config.lifespan), (12, 64, "off"))
+        self.assertEqual(config.log_level, "critical")
+
+    def test_how_often_silent_sessions_are_looked_for(self):
+        """Four times while one may be silent, and each 5 s at least."""
+        server = self.serve()
+        for idle, seconds in ((60, 5.0), (10, 2.5), (0.5, 0.125)):
+            server.limits, over = ServerLimits(idle=idle), mock.Mock()
+            over.wait.side_effect = [False, False, True]
+            with mock.patch.object(server.board, "sweep") as swept:
+                server._sweep(over)
+            self.assertEqual((over.wait.call_args_list, swept.call_count), ([mock.call(seconds)] * 3, 2))
+
+    def threads(self, method, path, body=None):
+        """By which threads a request is answered."""
+        api, seen = self.server._api, []
+
+        def noted(name):
+            pool = getattr(api, name)
+            real = pool.run
+
+            async def run(*given):
+                seen.append(name)
+                return await real(*given)
+            return mock.patch.object(pool, "run", run)
+        patches = [noted(it) for it in ("quick", "held", "slow", "feed", "bodies")]
+        for it in patches:
+            it.start()
+        try:
+            found = self.ask(path, method, body, Content_Type="application/json")
+        finally:
+            for it in patches:
+                it.stop()
+        self.assertLess(found.status, 400, found.body)
+        return seen
+
+    def test_which_threads_answer(self):
+        """A question over the whole graph takes none of those for quick ones."""
+        self.fed()
+        session = self.post("/v1/sessions").json["session"]
+        ask, edge = f"/v1/sessions/{session}/ask", "/v1/edge?kind=transfer&source=ana&target=funnel"
+        ends = b'{"call": "found", "ends": [%s]}' % b", ".join([b'["transfer", "ana", "funnel"]'] * 65)
+        for method, path, body, wanted in (
+                ("GET", edge, None, []), ("GET", "/v1/out_of?vertex=ana", None, ["quick"]),
+                ("GET", "/v1/edges", None, ["slow"]), ("GET", "/v1/levels?source=ana", None, ["slow"]),
+                ("GET", "/v1/into?vertex=funnel", None, ["slow"]), ("POST", "/v1/ask", b'{"questions": []}', ["slow"]),
+                ("POST", ask, b'{"call": "edges"}', ["slow"]), ("POST", ask, ends, ["quick"]),
+                ("GET", "/v1/sessions", None, ["quick"]), ("PUT", f"/v1/sessions/{session}", None, ["held"]),
+                ("GET", "/metrics", None, ["quick"]), ("POST", "/v1/feeder", None, ["feed"])):
+            self.assertEqual(self.threads(method, path, body), wanted, path)
+        with mock.patch.object(type(self.server.board), "is_busy", True):
+            self.assertEqual(self.threads("GET", edge), ["quick"])
+
+
+if __name__ == "__main__":
+    unittest.main()
