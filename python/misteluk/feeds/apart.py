@@ -9,8 +9,9 @@ import subprocess
 import sys
 import threading
 import time
+from contextlib import nullcontext
 from types import TracebackType
-from typing import Any, Callable, Iterator, NamedTuple, Optional, Sequence, Type
+from typing import Any, Callable, ContextManager, Iterator, NamedTuple, Optional, Sequence, Type
 
 from . import parcels
 from .following import Following
@@ -63,6 +64,8 @@ class Apart(Iterator[Applied]):
         self.ended_half = self._is_stopped = self._ends = self.is_left = False
         # What is called once another file took the place of this one (see `Following.on_left`).
         self.on_left: Callable[[], None] = lambda: None
+        # In what a batch is applied.
+        self.applying: "Callable[[], ContextManager[None]]" = nullcontext
         self.killed, self._in_vain = 0, 0
         self._lock, self._is_over = threading.Lock(), threading.Event()
         # Since when a batch is waited for; nothing while one is applied.
@@ -183,7 +186,8 @@ class Apart(Iterator[Applied]):
         batch = Operations(columns=numbered)
         batch.feed = None if self._mark is None else self._mark.written(place)
         try:
-            commit = ledger.apply(batch, True, (self._terms, head["kinds"]))
+            with self.applying():
+                commit = ledger.apply(batch, True, (self._terms, head["kinds"]))
         except StoreError as fault:
             rows = f"{place.rows - self.place.rows} rows, lines {head['first']} to {place.line}, aren't"
             raise ReadFault(getattr(fault, "word", "") or type(fault).__name__, f"{fault}; {self.told}, and {rows}") from fault

@@ -113,6 +113,8 @@ class Api:
             try:
                 if not request.scope[PERSON].may(role):
                     raise NotAllowed(f"this call is for those with the role {role}")
+                if role == "read":
+                    await self.board.precedence.turn()
                 return await handle(request)
             except (StoreError, Denied, ValueError, TypeError) as fault:
                 return told_fault(fault, request.scope)

@@ -39,6 +39,10 @@ class Answers:
         # Vertices that had too many edges to be answered here: the library counts them all before it says so.
         self._hubs: Set[str] = set()
 
+    async def turn(self) -> None:
+        """Waits for a batch of the feed, which goes first."""
+        await self._board.precedence.turn()
+
     def parts(self, name: str, asked: Mapping[str, Any], person: Person) -> Iterator[bytes]:
         """What a client's version answers, part by part."""
         call = str(asked.get("call"))
@@ -104,6 +108,7 @@ class Shortcut:
             await told_fault(fault, scope)(scope, receive, send)
             return
         scope[CALL] = ASK
+        await self._answers.turn()
         told = self._told(found[1], first, scope)
         if isinstance(told, bytes):
             length = str(len(told)).encode("ascii")

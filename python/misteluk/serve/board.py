@@ -11,6 +11,7 @@ from typing import Any, Callable, Deque, Dict, Iterator, List, NamedTuple, Optio
 
 from .limits import ServerLimits
 from .people import EVERYONE, Person
+from .precedence import Precedence
 from ..errors import SessionClosed, StoreError
 from ..session import Session
 from ..store import Store
@@ -84,6 +85,7 @@ class Board:
         self._last = Shared(store.open())
         # What is called when there is another last version.
         self.ring: Callable[[], None] = lambda: None
+        self.precedence = Precedence()
         self._held: Dict[int, Shared] = {self._last.version: self._last}
 
     def advance(self) -> None:

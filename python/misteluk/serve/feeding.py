@@ -77,7 +77,7 @@ class Feeding:
         self._feeder: Optional[Feeder] = None
         self._before: Deque[Feeder] = deque(maxlen=FEEDERS)
         self.posts = Queue()
-        self.readers = Readers(self._took, self._ended)
+        self.readers = Readers(self._took, self._ended, board.precedence.of_feed)
         self._is_over = False
         # Whether a followed file was read to its end once.
         self._is_read = False
@@ -93,7 +93,8 @@ class Feeding:
     def _took(self, step: Applied, rows: int) -> None:
         self.rate.add(rows)
         self.expired += step.commit.expired
-        self.board.advance()
+        with self.board.precedence.of_feed():
+            self.board.advance()
 
     def _ended(self, following: Apart, fault: Optional[BaseException]) -> None:
         self.state = "ended" if fault is None else "failed"
@@ -186,7 +187,8 @@ class Feeding:
     def _apply(self, operations: Operations, collect: bool) -> Commit:
         engine = self.store._engine
         before = engine.stat().version
-        receipt = engine.fly(engine.flight(operations, collect))
+        with self.board.precedence.of_feed():
+            receipt = engine.fly(engine.flight(operations, collect))
         if receipt.version > before:  # (else it was applied before, by its key)
             self._count(operations, receipt)
         return receipt
@@ -256,7 +258,8 @@ class Feeding:
             return False
         batches = [self._batch(found[0], post.person, post.key) for post, found in posts]
         try:
-            done = engine.fly_all([engine.flight(it, True) for it in batches])
+            with self.board.precedence.of_feed():
+                done = engine.fly_all([engine.flight(it, True) for it in batches])
         except StoreError as fault:
             for post, _ in posts:
                 post.fault = fault

@@ -2,7 +2,7 @@
 from __future__ import annotations
 
 import threading
-from typing import Callable, List, Optional, Protocol
+from typing import Callable, ContextManager, List, Optional, Protocol
 
 from . import log
 from .log import without_paths
@@ -23,9 +23,11 @@ class Readers:
     """Who reads a followed feed: each has a thread here. Where its file was rotated away, and all is in that it had then, the next
     one begins; it reads on, since who writes may have it open still, until the next one was rotated away too."""
 
-    def __init__(self, took: Callable[[Applied, int], None], ended: Callable[[Apart, Optional[BaseException]], None]) -> None:
-        # What is called for each batch, with how many rows it has, and once the last file's reader has ended.
-        self._took, self._ended = took, ended
+    def __init__(self, took: Callable[[Applied, int], None], ended: Callable[[Apart, Optional[BaseException]], None],
+                 first: "Callable[[], ContextManager[None]]") -> None:
+        # What is called for each batch, with how many rows it has, and once the last file's reader has ended; and in what batches
+        # are applied.
+        self._took, self._ended, self._first = took, ended, first
         self.last: Optional[Apart] = None
         self._before: Optional[Apart] = None
         self._others: Optional[Others] = None
@@ -59,7 +61,7 @@ class Readers:
                 following.close()
                 return
             apart, self._others = Apart(following), others
-            apart.on_left = lambda: self._leave(apart)
+            apart.on_left, apart.applying = lambda: self._leave(apart), self._first
             self._forget_ended()
             self._before, self.last = self.last, apart
             self._all.append(apart)
