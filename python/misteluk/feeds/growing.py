@@ -215,8 +215,8 @@ class Growing:
         mark.read(data)
 
     def _anew(self) -> FeedFault:
-        return FeedFault(f"{self.name} was written anew while it was followed: what was read of it isn't there any more, and what "
-                         "it has now isn't known")
+        return FeedFault(f"{self.name} was written anew while it was followed: what was read of it isn't there any more, and "
+                         "what it has now isn't known")
 
     def _must_be_whole(self) -> None:
         at, size = max(self.place, self.least), os.fstat(self._file).st_size
