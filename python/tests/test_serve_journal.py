@@ -26,9 +26,10 @@ class JournalServed(ServeCase):
         super().setUp()
         self.path, self.feed = str(self.room / "graph.db"), self.room / "feed.csv"
 
-    def begin(self, *words):
+    def begin(self, *words, **environment):
         """A server of the store's file as a process, and its port."""
-        server = self.command(self.path, *words, "--listen", "127.0.0.1:0")
+        with mock.patch.dict(os.environ, {it: str(told) for it, told in environment.items()}):
+            server = self.command(self.path, *words, "--listen", "127.0.0.1:0")
         said = server.stdout.readline()
         self.assertIn("serves", said, said or server.stderr.read())
         self.port = int(said.split("http://127.0.0.1:")[1].split()[0])
