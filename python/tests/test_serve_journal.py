@@ -218,5 +218,55 @@ class Followed(FollowedCase):
         self.assertEqual((len(self.weights()), set(self.weights().values())), (300, {1}))
 
 
+class Pipes(FollowedCase):
+    """A pipe's bytes can't be read again: what the server says is in is on the disk, and what it had read beyond that is lost
+    with it."""
+
+    def setUp(self):
+        super().setUp()
+        os.mkfifo(self.feed)
+        # (it stays open here, so that it has no end, and what nobody read of it stays there)
+        self.pipe = os.open(self.feed, os.O_RDWR)
+        self.addCleanup(os.close, self.pipe)
+        self.sent = []
+
+    def send(self, seconds):
+        """Writes rows one by one for so long, and notes when."""
+        end = time.monotonic() + seconds
+        while time.monotonic() < end:
+            os.write(self.pipe, f"s,t{len(self.sent)},1,1\n".encode("ascii"))
+            self.sent.append(time.monotonic())
+            time.sleep(0.02)
+
+    def test_what_a_killed_server_loses(self):
+        chance, lost = random.Random(6), set()
+        for turn in range(3):
+            server = self.begin(str(self.feed), "--add", *COLUMNS)
+            before = len(self.sent)
+            self.send(3 + chance.uniform(0, 1))
+            told = self.ask("GET", "/v1/stat")[1]["edges"]
+            server.kill()
+            server.wait()
+            found = self.weights()
+            numbers = sorted(int(it[1][1:]) for it in found)
+            self.assertEqual(set(found.values()), {1})
+            self.assertGreaterEqual(len(numbers), told)
+            late = set(range(len(self.sent))) - set(numbers)
+            new = sorted(late - lost)
+            self.assertEqual(new, [*range(len(self.sent) - len(new), len(self.sent))], "it isn't the last rows that aren't in")
+            self.assertGreater(len(self.sent) - len(new), before, "nothing was committed in three seconds")
+            # (what it hadn't read is in the pipe still, and the next one reads it)
+            self.end(self.begin(str(self.feed), "--add", *COLUMNS, "--every", "10ms"), signal.SIGTERM)
+            lost |= {it for it in late if ("s", f"t{it}") not in self.weights()}
+        self.assertEqual(check(self.path).faults, [])
+
+    def test_a_commit_comes_each_second(self):
+        """Also while rows come all the time."""
+        self.begin(str(self.feed), "--add", *COLUMNS)
+        self.send(9)
+        until = time.monotonic() - 6
+        self.assertGreaterEqual(self.ask("GET", "/v1/stat")[1]["edges"], sum(it < until for it in self.sent))
+
+
 if __name__ == "__main__":
     unittest.main()
