@@ -6,6 +6,7 @@ import re
 import shutil
 import subprocess
 import sys
+import tempfile
 import unittest
 from typing import List, Optional
 
@@ -22,11 +23,17 @@ def find_mypy() -> Optional[List[str]]:
 
 @unittest.skipUnless(find_mypy(), "mypy is not there")
 class Types(Case):
+    @classmethod
+    def setUpClass(cls) -> None:
+        # (what mypy knows of the package it keeps from run to run, which spares half a minute)
+        cls.kept = tempfile.TemporaryDirectory()
+        cls.addClassCleanup(cls.kept.cleanup)
+
     def judge(self, place: pathlib.Path) -> "subprocess.CompletedProcess[str]":
         """What mypy says of a package, under the settings of this one; nothing is written beside it."""
         settings = HERE.parent / "pyproject.toml"
-        return subprocess.run([*(find_mypy() or []), "--config-file", str(settings), "--cache-dir", str(self.room / "cache"),
-                               str(place)], stdout=subprocess.PIPE, stderr=subprocess.STDOUT, text=True, cwd=HERE.parent,
+        return subprocess.run([*(find_mypy() or []), "--config-file", str(settings), "--cache-dir", self.kept.name, str(place)],
+                              stdout=subprocess.PIPE, stderr=subprocess.STDOUT, text=True, cwd=HERE.parent,
                               env={**os.environ, "MYPYPATH": str(HERE.parent)})
 
     def test_each_module_is_typed(self):
