@@ -74,7 +74,8 @@ class Seeks(FollowCase):
         self.once(201_000)
 
     def test_a_restart_over_a_rotation(self):
-        words = argparse.Namespace(file=str(self.feed), every=0.01, keep=None, ahead=None, batch=4096, skip_bad=False, rejects=None)
+        words = argparse.Namespace(file=str(self.feed), every=0.01, keep=None, ahead=None, batch=4096, skip_bad=False,
+                                   rejects=None)
         how = {"by": "add", "columns": COLUMNS, "header": False}
 
         def turn(store, *counts):
@@ -138,11 +139,12 @@ class Seeks(FollowCase):
 
 
 class Restarts(FollowCase):
-    """Restarts anywhere in a file of all that makes places hard: rows of several lines, line ends of both kinds, blank lines, signs
-    of several bytes or none of the encoding, a mark of the order of bytes. By reads of few bytes, so that they end anywhere."""
+    """Restarts anywhere in a file of all that makes places hard: rows of several lines, line ends of both kinds, blank lines,
+    signs of several bytes or none of the encoding, a mark of the order of bytes. By reads of few bytes, which end anywhere."""
 
     def text(self, chance, count):
-        rows, end = ['from;to;sum;what\n', '"from";to;sum;"what"\r\n', 'from;"to";what;sum\n'][chance.randrange(3)], ["\n", "\r\n"]
+        end = ["\n", "\r\n"]
+        rows = ['from;to;sum;what\n', '"from";to;sum;"what"\r\n', 'from;"to";what;sum\n'][chance.randrange(3)]
         is_other = rows.rstrip().endswith("sum")
         for it in range(count):
             name = chance.choice((f"ä{it}", f'"of\nseveral\r\nlines {it}"', f"plain{it}", f'"a;""{it}"', f"€{it}"))

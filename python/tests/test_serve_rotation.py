@@ -128,8 +128,8 @@ class Rotated(FollowedCase):
         server = self.follow()
         self.has(150)
         self.end(server, signal.SIGTERM)
-        self.assertIn("is another file than the one that was followed last. That one isn't there any more: what wasn't in of it is "
-                      "lost. A file that stood there meanwhile, if there was one, isn't read", server.stderr.read())
+        self.assertIn("is another file than the one that was followed last. That one isn't there any more: what wasn't in of it "
+                      "is lost. A file that stood there meanwhile, if there was one, isn't read", server.stderr.read())
 
 
 class Turns(Case):
@@ -142,14 +142,15 @@ class Turns(Case):
         first = FeedMark("/log", (1, 10), 0, FeedPlace(done=5), 1)
         second = FeedMark("/log", (1, 11), 0, FeedPlace(done=7), 2)
         feeds = self.known(first, second)
-        for file, has, after, told in ((10, True, 0, (5, 1)), (11, True, 0, (7, 2)), (11, False, 0, (7, 2)), (10, False, 0, (0, 3)),
-                                       (12, True, 0, (0, 3)), (12, True, 5, (0, 6))):
+        for file, has, after, told in ((10, True, 0, (5, 1)), (11, True, 0, (7, 2)), (11, False, 0, (7, 2)),
+                                       (10, False, 0, (0, 3)), (12, True, 0, (0, 3)), (12, True, 5, (0, 6))):
             mark = FeedMark("/log", (1, file), 0)
             found = mark.in_turn(mark.known(feeds), lambda _: has, after)
             self.assertEqual((found.place.done, found.turn), told, (file, has, after))
 
     def test_another_path_of_the_same_file(self):
-        feeds = self.known(FeedMark("/log", (1, 10), 0, FeedPlace(done=5), 1), FeedMark("/other", (1, 10), 9, FeedPlace(done=8), 4))
+        feeds = self.known(FeedMark("/log", (1, 10), 0, FeedPlace(done=5), 1),
+                           FeedMark("/other", (1, 10), 9, FeedPlace(done=8), 4))
         mark = FeedMark("/log.1", (1, 10), 0)
         found = mark.in_turn(mark.known(feeds), lambda _: True)
         self.assertEqual((found.place.done, found.turn, found.path), (5, 1, "/log.1"))

@@ -26,7 +26,8 @@ from misteluk.serve.server import Server
 def some(number):
     """The operations of a batch: names and edges of their own and shared ones, removals, changes of an edge."""
     chance = random.Random(number)
-    rows = [(INSERT, "k", f"a{chance.randrange(9)}", f"b{chance.randrange(9)}", number, number) for _ in range(chance.randrange(1, 5))]
+    rows = [(INSERT, "k", f"a{chance.randrange(9)}", f"b{chance.randrange(9)}", number, number)
+            for _ in range(chance.randrange(1, 5))]
     return rows + [(REMOVE, "k", f"a{number % 9}", f"b{number % 7}", 0, 0)] * (number % 3 == 0)
 
 
@@ -131,7 +132,8 @@ class AtOnce(JournalCase):
                     raise MemoryError("no memory")
                 return real(engine, flight)
             with mock.patch.object(LibraryEngine, "fly", fly):
-                self.assertRaisesRegex(JournalFault, "the file has batches that the store doesn't take", self.fly, store, [1, 2, 3])
+                self.assertRaisesRegex(JournalFault, "the file has batches that the store doesn't take", self.fly, store,
+                                       [1, 2, 3])
             self.assertRaises(JournalFault, self.fly, store, [4])
         with self.opened() as store, Store(str(self.room / "other.db"), sync="off") as other:
             self.fly(other, [1, 2, 3])
@@ -199,8 +201,9 @@ class Together(JournalServed):
         store, server = self.served()
         before = self.add(["x,y"], Idempotency_Key="before")
         row = "add,k,a,b,1,1\n"
-        found, _ = self.at_once(store, server, (row, {"Idempotency_Key": "one"}), (row, {"Idempotency_Key": "one"}), (row, {}),
-                                ("add,k,x,y,1,1\n", {"Idempotency_Key": "before"}), ("add,k,c,d,1,1\n", {"Idempotency_Key": "one"}))
+        one = {"Idempotency_Key": "one"}
+        found, _ = self.at_once(store, server, (row, one), (row, one), (row, {}),
+                                ("add,k,x,y,1,1\n", {"Idempotency_Key": "before"}), ("add,k,c,d,1,1\n", one))
         self.assertEqual([it[0] for it in found], [200, 200, 200, 200, 409])
         self.assertEqual((found[0], found[3], found[4][1]["error"]), (found[1], before, "SequenceTaken"))
         self.assertEqual(self.weights(), {("x", "y"): 1, ("first", "row"): 1, ("a", "b"): 2})
@@ -210,7 +213,8 @@ class Together(JournalServed):
         store, server = self.served()
         large = "".join(f"add,k,l{it},b,1,1\n" for it in range(5_000))
         found, writes = self.at_once(store, server, *((body, {}) for body in ("add,k,a,b,1,1\n", large, "add,k,c,d,1,1\n")))
-        self.assertEqual([(it[0], it[1]["version"], it[1]["inserted"]) for it in found], [(200, 2, 1), (200, 4, 5_000), (200, 5, 1)])
+        self.assertEqual([(it[0], it[1]["version"], it[1]["inserted"]) for it in found],
+                         [(200, 2, 1), (200, 4, 5_000), (200, 5, 1)])
         self.assertEqual(writes, 4)
 
     def test_one_that_was_given_up(self):

@@ -62,8 +62,8 @@ def must_be_in(mark: FeedMark, feeds: Mapping[str, str]) -> None:
             now = os.fstat(it.fileno())
             place = places[now.st_dev, now.st_ino]
             if place.left or now.st_size > place.read:
-                raise FeedFault(f"{mark.path} is another file than the one that was read by this name, which is {it.found} now and "
-                                "has more than is in: follow that one first, to its end")
+                raise FeedFault(f"{mark.path} is another file than the one that was read by this name, which is {it.found} now "
+                                "and has more than is in: follow that one first, to its end")
     finally:
         for it in found:
             it.file.close()
@@ -79,7 +79,7 @@ class Succession:
         self._files: Deque[Standing] = deque(earlier(path, feeds))
         mark = FeedMark.of(path, os.stat(path))
         known = [it for it in mark.known(feeds) if it.path == mark.path]
-        # Whether the file that stands there wasn't followed yet, though another one was; and where that one is now, if it is there.
+        # Whether the file that stands there wasn't followed yet, though another one was; and where that one is now, if anywhere.
         self.is_another = bool(known) and known[-1].file != mark.file
         self.before = self._files[-1].found if self.is_another and self._files else None
         self._last: Optional[os.stat_result] = None

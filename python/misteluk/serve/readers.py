@@ -1,4 +1,4 @@
-"""The processes that read a feed that a server follows: one for its file, and for the one before that was rotated away another."""
+"""The processes that read a feed that a server follows: one for its file, and one for the file that was rotated away last."""
 from __future__ import annotations
 
 import threading
@@ -20,8 +20,8 @@ class Others(Protocol):
 
 
 class Readers:
-    """Who reads a followed feed: each has a thread here. Where its file was rotated away, and all is in that it had then, the next
-    one begins; it reads on, since who writes may have it open still, until the next one was rotated away too."""
+    """Who reads a followed feed: each has a thread here. Where its file was rotated away, and all is in that it had then, the
+    next one begins; it reads on, since who writes may have it open still, until the next one was rotated away too."""
 
     def __init__(self, took: Callable[[Applied, int], None], ended: Callable[[Apart, Optional[BaseException]], None],
                  first: "Callable[[], ContextManager[None]]") -> None:
