@@ -11,7 +11,7 @@ from unittest import mock
 from journaled import JournalCase, Model, batch, of_sqlite, put, told
 from support import row
 
-from misteluk import Columns, Limits, Store, Units, survey
+from misteluk import Columns, Limits, Store, StoreError, Units, survey
 from misteluk.engine.protocol import WHOLE
 from misteluk.engine.waiting import WaitingEngine
 from misteluk.errors import JournalFault, NotWritten, OverLimit
@@ -232,6 +232,22 @@ class Faults(JournalCase):
             self.assertEqual(check(self.path).faults, [])
             with Store(self.path) as store, store.open() as session:
                 self.assertEqual((session.edge("k", "Анна", "b").weight, session.version), (1, 3))
+
+    def test_what_is_told_behind_an_interrupt(self):
+        """The version that a session has then: who reads the one before would load the same again."""
+        for name, is_in in (("finish", True), ("begin", False)):
+            self.path = str(self.room / f"{name}.db")
+            store = self.fed(2)
+            with mock.patch.object(WaitingEngine, name, side_effect=KeyboardInterrupt), self.assertRaises(KeyboardInterrupt):
+                store.load([("x", "y", 1, 1)], by="set")
+            told_by, wanted = store.stat(), 2 + is_in
+            with store.open() as session:
+                self.assertEqual((told_by.version, session.version, session.has_vertex("x")), (wanted, wanted, is_in))
+            self.assertEqual(told_by.edges, len(Model().upto(2).edges) + is_in)
+            with mock.patch.object(WaitingEngine, name, side_effect=KeyboardInterrupt), self.assertRaises(KeyboardInterrupt):
+                store.load([("x", "z", 1, 1)], by="set")
+            store._kill()
+            self.assertRaisesRegex(StoreError, "the store is closed", store.stat)
 
     def test_pages_are_given_back(self):
         store = self.fed(12)
