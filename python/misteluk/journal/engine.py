@@ -131,8 +131,8 @@ class Journaled(Passing):
         return receipt
 
     def stat(self) -> Stat:
-        """The last version; it waits for no batch that is being written. (What an interrupt broke off is found first: a batch that
-        the file has is in.)"""
+        """The last version; it waits for no batch that is being written. What an interrupt broke off is found first: a batch that
+        the file has is in."""
         if self._flying is not None and self._guard.holder is None and not self.inner.has_ended:
             self._find()
         return self.inner.stat()
