@@ -1,6 +1,7 @@
 """A store beside a model of it, which counts by hand, while a timer interrupts its calls.
 
     python3 modelled.py 10000 7         so many interrupts, from this seed on
+    python3 modelled.py 10000 7 file    the same over a store with a file, which is opened again and again
 """
 import os
 import random
@@ -22,12 +23,16 @@ class Model:
 
     def __init__(self, room, seed=7):
         self.random, self.room = random.Random(seed), room
-        self.store = Store(blocks=1024, seats=4)
+        self.store = self.made()
         # The edges, with weight, first and recent time; what is pending; the sessions, each with its edges; the last version.
         self.edges, self.pending, self.held, self.version = {}, [], [], 0
         self.steps = self.interrupts = self.clock = 0
         # How long each call took that wasn't interrupted: an interrupt comes within that, or a little later.
         self.seconds = {}
+
+    @staticmethod
+    def made():
+        return Store(blocks=1024, seats=4)
 
     def call(self, what, name):
         """Makes a call with an interrupt on its way; gives what it gave, and whether it was interrupted."""
@@ -49,7 +54,7 @@ class Model:
     def run(self, interrupts):
         calls = [self.operate] * 4 + [self.commit] * 3 + [self.open, self.close, self.ask, self.ask, self.table, self.count]
         calls += [self.load, self.told_late, self.rebase, self.save, self.commit_more]
-        calls += [self.renew, self.collect, self.end_store]
+        calls += [self.renew, self.collect, self.end_store, *self.others()]
         with warnings.catch_warnings():
             warnings.simplefilter("ignore", ResourceWarning)  # (Python closes what an interrupted `open` gave nobody)
             while self.interrupts < interrupts:
@@ -59,6 +64,11 @@ class Model:
         self.open()
         for session, edges in self.held:
             assert session.get_edges(list(edges)) == list(edges.values())
+
+    @staticmethod
+    def others():
+        """More calls."""
+        return []
 
     def edge(self):
         return "l", f"s{self.random.randrange(6)}", f"t{self.random.randrange(6)}"
@@ -258,15 +268,67 @@ class Model:
         lost, interrupted = self.call(close, "close")
         lost = close() if interrupted else lost
         assert (len(lost), close(), self.store.is_closed) == (len(self.pending), [], True), (lost, self.pending)
-        self.__dict__.update(store=Store(blocks=1024, seats=4), edges={}, pending=[], held=[], version=0)
+        self.__dict__.update(pending=[], held=[])
+        self.begin()
+
+    def begin(self):
+        self.__dict__.update(store=self.made(), edges={}, version=0)
 
     def end(self):
         self.store._kill()
 
 
+class OfFile(Model):
+    """The same of a store with a file: what was closed or killed is there again, and what a producer sends is in once."""
+
+    sent = 0
+
+    def made(self):
+        return Store(os.path.join(self.room, "graph.db"), sync="off", seats=4)
+
+    def others(self):
+        return [self.numbered, self.numbered, self.compact, self.kill]
+
+    def begin(self):
+        """It is opened, perhaps at the second try, and has what the model has."""
+        store, interrupted = self.call(self.made, "an opening")
+        self.store = self.made() if interrupted else store
+        with self.store.open() as session:
+            found = {tuple(it[:3]): tuple(it[3]) for it in session.edges()}
+        assert (session.version, found) == (self.version, self.edges), (session.version, self.version)
+
+    def kill(self):
+        self.commit()
+        self.store._kill()
+        self.held = []
+        self.begin()
+
+    def rebase(self):
+        """An older version can't be what the store begins with."""
+
+    def compact(self):
+        """What an interrupt leaves of it changes nothing."""
+        self.call(lambda: self.store.file.compact(self.random.choice((None, 0, 3))), "compaction")
+        self.count()
+
+    def numbered(self):
+        """A producer's batch, which is sent until its answer comes, and once more: each answer is the first one's."""
+        self.commit()
+        self.operate()
+        self.sent += 1
+
+        def send():
+            return self.store.commit(producer="feed", sequence=self.sent)
+        done, interrupted = self.call(send, "numbered")
+        done = send() if interrupted else done
+        assert (send(), self.store.pending, self.store.file.last_sequence("feed")) == (done, 0, self.sent)
+        counts, self.pending = self.applied(self.pending), []
+        self.is_told(done, counts)
+
+
 if __name__ == "__main__":
     with handler(interrupt_in_a_call), tempfile.TemporaryDirectory() as ROOM:
-        MODEL = Model(ROOM, int(sys.argv[2]) if len(sys.argv) > 2 else 7)
+        MODEL = (OfFile if sys.argv[3:] == ["file"] else Model)(ROOM, int(sys.argv[2]) if len(sys.argv) > 2 else 7)
         MODEL.run(int(sys.argv[1]))
         MODEL.end()
     print(f"{sys.version.split()[0]}: {MODEL.interrupts} interrupts in {MODEL.steps} steps: nothing wrong, nothing lost")

@@ -145,8 +145,10 @@ class Endless(Case):
         old = store.open()
         edges = list(old.edges())
         store.commit()
-        with self.assertRaisesRegex(misteluk.errors.PoolEmpty, "version 5 finds no room in 16 blocks, and nothing was changed"):
+        told = "version 5 finds no room in 16 blocks, and nothing was changed"
+        with self.assertRaisesRegex(misteluk.errors.PoolEmpty, told) as caught:
             store.compact(old)
+        self.assertEqual((caught.exception.needed, caught.exception.free), (17, None))
         self.assertEqual((row(store.stat())[:3], store.stat().free, list(old.edges())), ((6, 18, 17), 0, edges))
         self.assertEqual(list(store.open().edges()), edges)
 

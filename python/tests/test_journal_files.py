@@ -1,33 +1,27 @@
-"""What a store's file is by small parts, in rows: heads, bases, locks, a damaged -wal, what a fault of SQLite means."""
+"""What a store's file is by small parts, in rows: heads, bases, what a fault of SQLite means, what a broken off call left."""
 import contextlib
 import datetime
 import json
 import os
 import shutil
 import sqlite3
-import struct
 import unittest
 from unittest import mock
 
 from journaled import JournalCase, Model, batch, of_sqlite, put, told
 from support import row
 
-from misteluk import Columns, Limits, Store, Units, survey
+from misteluk import Columns, Limits, Store, StoreError, Units, survey
 from misteluk.engine.protocol import WHOLE
 from misteluk.engine.waiting import WaitingEngine
 from misteluk.errors import JournalFault, NotWritten, OverLimit
 from misteluk.journal import checking, journal, tables
 from misteluk.journal.checking import check
 from misteluk.journal.logs import log
-from misteluk.journal.replica import FirstFile, begun, read_added, told_added, told_base
+from misteluk.journal.replica import begun, read_added, told_added, told_base
 from misteluk.journal.tables import Head
-from misteluk.journal.wal import commits_lost
 
 DAY = 86_400 * 10**9
-
-
-def descriptors():
-    return len(os.listdir("/proc/self/fd"))
 
 
 class Opened(JournalCase):
@@ -36,6 +30,15 @@ class Opened(JournalCase):
         with contextlib.closing(sqlite3.connect(self.path)) as opened:
             opened.execute(words, values)
             opened.commit()
+
+    def test_a_file_without_a_batch(self):
+        self.opened().close()
+        for call in (lambda: Store.at(self.path, version=0), lambda: Store.at(self.path, time="2999-01-01")):
+            with call() as then:
+                self.assertEqual(then.stat().version, 0)
+        self.assertEqual((check(self.path), list(log(self.path))), ((0, 0, 0, 0, []), []))
+        with self.opened() as store:
+            self.assertEqual((store.file.kept.oldest, row(store.file.recovered)), (0, (0, 0, 0, 0)))
 
     def test_what_was_replayed(self):
         self.fed(30).close()
@@ -120,10 +123,27 @@ class Opened(JournalCase):
             store.insert("k", "Анна", "b")
             store.commit()
             store.load(survey(path, by="add", columns=Columns("from", "to")), by="add")
-            store.insert("k", "Д Д", "b")
-            store.commit()
-        with Store(self.path) as store, store.open() as session:
-            self.assertEqual({it[1] for it in session.edges()}, {"Анна", "Иванов Пётр", "Ж Ж", "Д Д"})
+        names = {"Анна", "Иванов Пётр", "Ж Ж"}
+        for more in ("Д Д", "Э Э"):
+            with Store(self.path) as store:
+                with store.open() as session:
+                    self.assertEqual({it[1] for it in session.edges()}, names)
+                store.insert("k", more, "b")
+                store.commit()
+            names.add(more)
+
+    def test_how_far_feeds_are_in(self):
+        """By the batches, and by a base."""
+        told = '["a.csv", 5]'
+        with self.opened() as store:
+            store.insert("k", "a", "b")
+            store._ledger.commit(True, 10, told)
+            self.assertEqual(store._engine.feeds, {"a.csv": told})
+        for _ in range(2):
+            with self.opened() as store:
+                self.assertEqual(store._engine.feeds, {"a.csv": told})
+                store.file.compact()
+        self.assertEqual((store.file.recovered.base, self.rows("SELECT feed FROM batches")), (1, [(told,)]))
 
     def test_limits_are_kept(self):
         """Those that were said last, also where nothing was committed."""
@@ -162,118 +182,6 @@ class Opened(JournalCase):
             self.assertRaisesRegex(JournalFault, "sync=normal", call, engine)
 
 
-class Locks(JournalCase):
-    def noted(self):
-        """The version that the lock's file has."""
-        return int((self.room / "graph.db-lock").read_bytes().split()[0])
-
-    def test_a_version_is_noted_as_long_as_there_is_a_wal(self):
-        store = self.fed(3)
-        self.assertEqual(self.noted(), 3)
-        with contextlib.closing(sqlite3.connect(self.path)) as reader:
-            reader.execute("BEGIN")
-            reader.execute("SELECT * FROM head").fetchall()
-            store.close()
-            self.assertEqual((self.noted(), (self.room / "graph.db-wal").exists()), (3, True))
-        Store(self.path).close()
-        self.assertEqual((self.noted(), (self.room / "graph.db-wal").exists()), (0, False))
-
-    def test_an_older_copy(self):
-        """It is opened where the writer closed, since nothing is missing then but what was copied back."""
-        self.fed(3).close()
-        shutil.copy(self.path, self.room / "copy")
-        with self.opened() as store:
-            put(store, batch(4))
-        shutil.copy(self.room / "copy", self.path)
-        with Store(self.path) as store:
-            self.assertEqual(told(store), Model().upto(3).told())
-
-    def test_a_fork_keeps_no_lock(self):
-        store, (there, here) = self.fed(1), os.pipe()
-        child = os.fork()
-        if not child:
-            os.close(here)
-            os.read(there, 1)
-            os._exit(0)
-        os.close(there)
-        try:
-            store.close()
-            Store(self.path).close()
-        finally:
-            os.close(here)
-            os.waitpid(child, 0)
-
-    def test_descriptors_are_given_back(self):
-        kept, before = [], descriptors()
-        for _ in range(3):
-            with self.opened() as store:
-                kept.append(store._engine)
-                store.commit()
-        self.assertEqual(descriptors(), before)
-        with self.opened() as store:
-            first = FirstFile(self.path)
-            self.addCleanup(first.close)
-            before = descriptors()
-            for _ in range(3):
-                self.assertEqual(len(first.added(store.commit().version - 1).rows), 1)
-            self.assertEqual(descriptors(), before)
-
-
-class Wals(JournalCase):
-    def frames(self, data):
-        """Where the frames of a -wal begin, and whether each ends a commit."""
-        size = struct.unpack(">I", data[8:12])[0]
-        return [(at, data[at + 4:at + 8] != bytes(4)) for at in range(32, len(data) - size - 23, 24 + size)]
-
-    def lost(self, data):
-        (self.room / "other.db-wal").write_bytes(data)
-        return commits_lost(self.room / "other.db")
-
-    def test_damage(self):
-        """Of commits that are whole behind a damage the first may be one that a crash tore, and the others not."""
-        with self.fed(5, limits=Limits()):
-            data = (self.room / "graph.db-wal").read_bytes()
-        frames = self.frames(data)
-        self.assertTrue(len(frames) > sum(commit for _, commit in frames) > 5, "a commit has several frames")
-        for at, (begin, _) in enumerate(frames):
-            commits = sum(commit for _, commit in frames[at:])
-            for byte in (begin, begin + 3, begin + 16, begin + 23, begin + 24, begin + 4_000):
-                hurt = bytearray(data)
-                hurt[byte] ^= 1
-                self.assertEqual(self.lost(hurt), commits - 1, (at, byte - begin))
-            for end in (begin, begin + 23, begin + 24, begin + 4_000):
-                self.assertEqual(self.lost(data[:end]), 0, end)
-        for byte in range(32):
-            hurt = bytearray(data)
-            hurt[byte] ^= 1
-            self.assertEqual(self.lost(hurt), -1, byte)
-            self.assertEqual(self.lost(data[:byte]), 0, byte)
-        self.assertEqual((self.lost(data), commits_lost(self.room / "none.db")), (0, 0))
-
-    def test_what_stands_behind_a_wal_that_began_again(self):
-        """Frames of the one before count for nothing."""
-        with self.fed(5) as store:
-            store._engine._journal.opened.execute("PRAGMA wal_checkpoint(RESTART)")
-            put(store, batch(6))
-            data = (self.room / "graph.db-wal").read_bytes()
-        self.assertTrue(len({data[at + 8:at + 16] for at, _ in self.frames(data)}) > 1)
-        self.assertEqual(self.lost(data), 0)
-
-    def test_who_reads_looks_at_it_too(self):
-        """Where nobody writes the file: `Store.at`, a check, and a replica."""
-        with self.fed(3):
-            for it in ("graph.db", "graph.db-wal"):
-                shutil.copy(self.room / it, self.room / f"other{it[5:]}")
-        path, wal = self.room / "other.db", self.room / "other.db-wal"
-        hurt = bytearray(wal.read_bytes())
-        hurt[60] ^= 1
-        wal.write_bytes(hurt)
-        for call in (lambda: Store.at(path, version=1), lambda: FirstFile(path), lambda: Store(path)):
-            with self.assertRaisesRegex(JournalFault, "-wal is damaged, and not the last"):
-                call()
-        self.assertRegex(check(path).faults[0], "-wal is damaged")
-
-
 class Faults(JournalCase):
     def test_what_a_fault_means(self):
         """That nothing is written; or that whether it was isn't known, and this writer takes nothing more."""
@@ -294,6 +202,7 @@ class Faults(JournalCase):
             store._engine._journal.opened = failing
             with self.assertRaisesRegex(error, why):
                 put(store, batch(3))
+            self.assertEqual(store._engine.has_ended, error is JournalFault)
             opened.execute("ROLLBACK")
             store.discard()
             store._engine._journal.opened = opened
@@ -315,6 +224,7 @@ class Faults(JournalCase):
             store = self.fed(2)
             with mock.patch.object(of, name, side_effect=KeyboardInterrupt), self.assertRaises(KeyboardInterrupt):
                 put(store, [("insert", "k", "Анна", "b", 1, 1)], producer="other", sequence=7)
+            self.assertEqual((store.discard(), store.pending, store._engine.has_ended), (0, 1, False))  # (it is on its way)
             done = store.commit()
             self.assertEqual((done.version, done.inserted, store.stat().edges), (3, 1, len(Model().upto(2).edges) + 1))
             self.assertEqual((store.file.last_sequence("other"), store.pending), (7 if is_in else None, 0))
@@ -322,6 +232,22 @@ class Faults(JournalCase):
             self.assertEqual(check(self.path).faults, [])
             with Store(self.path) as store, store.open() as session:
                 self.assertEqual((session.edge("k", "Анна", "b").weight, session.version), (1, 3))
+
+    def test_what_is_told_behind_an_interrupt(self):
+        """The version that a session has then: who reads the one before would load the same again."""
+        for name, is_in in (("finish", True), ("begin", False)):
+            self.path = str(self.room / f"{name}.db")
+            store = self.fed(2)
+            with mock.patch.object(WaitingEngine, name, side_effect=KeyboardInterrupt), self.assertRaises(KeyboardInterrupt):
+                store.load([("x", "y", 1, 1)], by="set")
+            told_by, wanted = store.stat(), 2 + is_in
+            with store.open() as session:
+                self.assertEqual((told_by.version, session.version, session.has_vertex("x")), (wanted, wanted, is_in))
+            self.assertEqual(told_by.edges, len(Model().upto(2).edges) + is_in)
+            with mock.patch.object(WaitingEngine, name, side_effect=KeyboardInterrupt), self.assertRaises(KeyboardInterrupt):
+                store.load([("x", "z", 1, 1)], by="set")
+            store._kill()
+            self.assertRaisesRegex(StoreError, "the store is closed", store.stat)
 
     def test_pages_are_given_back(self):
         store = self.fed(12)

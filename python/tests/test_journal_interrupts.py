@@ -3,7 +3,8 @@ import gc
 import unittest
 import warnings
 
-from interrupting import at_line, places
+from interrupting import at_line, handler, interrupt_in_a_call, places
+from modelled import OfFile
 from support import Case, row
 
 from misteluk import Store
@@ -88,6 +89,14 @@ class Interrupts(Case):
 
     def test_a_compaction(self):
         self.assertEqual(self.wrong(Scene.compact, Scene.is_there, 6), [])
+
+    def test_a_timer_s_interrupts(self):
+        """With a model beside the store, which is opened again and again."""
+        with handler(interrupt_in_a_call):
+            model = OfFile(self.room)
+            self.addCleanup(model.end)
+            model.run(150)
+        self.assertGreater(model.steps, 50)
 
     def is_interrupted(self, at, path):
         """Opens the file and interrupts that at a line; whether there is such a line. What is left then Python closes late."""

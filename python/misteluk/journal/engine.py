@@ -25,7 +25,7 @@ from ..engine.held import LibraryVersion
 from ..engine.operations import Operations
 from ..engine.protocol import Denied, Held
 from ..errors import ReadOnly, SequenceTaken, StoreError
-from ..values.answers import Collected, Commit, Compacted
+from ..values.answers import Collected, Commit, Compacted, Stat
 from ..feeds.terms import Terms
 
 
@@ -176,6 +176,17 @@ class Journaled(Passing):
         if receipt is None and self._journal.fault is not None:
             raise self._journal.fault
         return receipt
+
+    def stat(self) -> Stat:
+        """The last version; it waits for no batch that is being written. What an interrupt broke off is found first: a batch that
+        the file has is in."""
+        if self._flying is not None and self._guard.holder is None and not self.inner.has_ended:
+            self._find()
+        return self.inner.stat()
+
+    @alone
+    def _find(self) -> None:
+        self._settle()
 
     def last_sequence(self, producer: str) -> Optional[int]:
         """The last number of a producer's batches; `None` where it has sent none."""
