@@ -23,8 +23,9 @@
 - A wrong body names files of its crate, and has pairs of an old line, which stands in its file once, and a new one.
 - README.md, CONTRIBUTING.md, docs/ and python/README.md have together at most 160,000 bytes: a page that gets longer has another
   get shorter. (CHANGELOG.md grows with each change that users see.)
-- A script, and a file in a language that no prover reads, has at most 400 lines. A function's body in Python (after its
-  docstring) or Rust has at most 40 lines; in Python its blocks nest at most three deep, where `with` isn't counted.
+- A script, and a file in a language that no prover reads, has at most 400 lines, besides the examples of docstrings. A function's
+  body in Python (after its docstring) or Rust has at most 40 lines; in Python its blocks nest at most three deep, where `with`
+  isn't counted.
 - A commit's subject has at most 72 characters.
 
 Its last line is 'N passed, M failed'.
