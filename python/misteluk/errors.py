@@ -59,7 +59,7 @@ class Refused(StoreError):
     ('BadName', "source '': a name has at least one byte")
 
     `word` is the error's name, `place` where the operation came from, `fault` the field and the reason, `advice` what to do, and
-    `told` the text without the advice. If a commit was refused, `applied` has what the batches before that one did, or `None`."""
+    `told` the text without the advice. `applied` has what the batches before a refused one did, or `None`."""
 
     word = ""
     advice = ""
@@ -385,6 +385,12 @@ class NotWritten(JournalError):
 
 class JournalFault(JournalError):
     """A store's file isn't as it was written, or a sync of it failed; nothing more is written to it until it is opened again.
+
+    >>> with open("notes.txt", "w") as file:
+    ...     count = file.write("These notes are no store's file.")
+    >>> Store("notes.txt")
+    Traceback (most recent call last):
+    misteluk.errors.JournalFault: ...
 
     `whole` is the last version that `Store.at` can read, or `None` if that isn't known."""
 

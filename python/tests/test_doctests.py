@@ -1,4 +1,4 @@
-"""The examples of the client's docstrings: each runs, on Python alone and with packages."""
+"""The examples of the client's docstrings: each public call has one, and each runs, on Python alone and with packages."""
 import contextlib
 import doctest
 import inspect
@@ -7,11 +7,13 @@ import re
 import unittest
 import warnings
 from functools import cached_property
+from unittest import mock
 
 from support import Case, optional
 
 import misteluk
 from misteluk import errors, options
+from misteluk.journal import file
 
 # The server of the examples, and what a server needs.
 URL, OF_SERVER = "http://127.0.0.1:7700", ("starlette", "uvicorn")
@@ -20,9 +22,9 @@ BEFORE = {"misteluk": (), "Store": (), "Session": (), "Followed": ("Session", "F
 
 
 def public():
-    """Yields each public name, and each public method and property of a class, with its docstring."""
-    for name in misteluk.__all__:
-        it = getattr(misteluk, name)
+    """Yields each public name and those of a store's file, and each public method and property of a class, with its docstring."""
+    names = {name: getattr(misteluk, name) for name in misteluk.__all__}
+    for name, it in {**names, **{it.__name__: it for it in (file.StoreFile, file.Recovered, file.Kept)}}.items():
         yield name, it.__doc__
         for own, member in vars(it).items() if inspect.isclass(it) else ():
             is_call = inspect.isroutine(member) or isinstance(member, (property, cached_property, classmethod, staticmethod))
@@ -37,6 +39,11 @@ def others():
         for name, it in vars(module).items():
             if inspect.isclass(it) and it.__module__ == module.__name__ and name not in misteluk.__all__:
                 yield f"{module.__name__}.{name}", it.__doc__
+
+
+def without():
+    """The public names whose docstring has no example."""
+    return [name for name, docstring in public() if ">>> " not in (docstring or "")]
 
 
 EXAMPLES = {name: docstring for name, docstring in [*others(), *public()] if ">>> " in (docstring or "")}
@@ -103,6 +110,16 @@ class Docstrings(Case):
         for it in before:
             self.run_one(it, EXAMPLES[it])
         self.run_one(name, EXAMPLES[name])
+
+    def test_each_public_call_has_an_example(self):
+        self.assertEqual(without(), [])
+        self.assertGreater(len(EXAMPLES), 150)
+
+    def test_a_call_without_an_example_is_seen(self):
+        with mock.patch.object(misteluk.Session.levels, "__doc__", "Returns the levels."):
+            self.assertIn("Session.levels", without())
+        with mock.patch.object(misteluk.Edges, "later", property(lambda edges: 1), create=True):
+            self.assertIn("Edges.later", without())
 
     def test_a_wrong_example_fails(self):
         with self.assertRaisesRegex(AssertionError, "Expected:\n    5\nGot:\n    4\n"):

@@ -148,6 +148,10 @@ else:
         first: Any
         recent: Any
 
+    Edge.weight.__doc__ = "The weight, in the store's units."
+    Edge.first.__doc__ = "The time of the operation that added the edge."
+    Edge.recent.__doc__ = "The time of the last operation on the edge."
+
 
 @dataclass(frozen=True)
 class Neighbor(Generic[W, T]):
