@@ -14,6 +14,8 @@
   word of this house (HOUSE) that a page uses stands in that table, or that page or the README explains it, where it shows
   it *so*.
 - No page has a word of COINED, and none of its sentences begins with one of OPENERS, unless it is a question.
+- Each public call of the client has a docstring. It begins with a capital, its first sentence ends on its first line, and it has
+  no word of COINED nor of `docstrings.COINED`; no public parameter has a name of `docstrings.PARAMETERS`.
 - No file's name, and no comment, docstring or text of code, has a phrase of WANTED, on one line or over several.
 - Each crate has a README of fewer than 60 lines, whose list of calls is the one that `tools/docs --readmes` writes.
 - docs/LIBRARY.md shows each program that stands on `misteluk`: its row of crates.txt, and each of its files as it is, or a link
@@ -23,8 +25,9 @@
 - A wrong body names files of its crate, and has pairs of an old line, which stands in its file once, and a new one.
 - README.md, CONTRIBUTING.md, docs/ and python/README.md have together at most 160,000 bytes: a page that gets longer has another
   get shorter. (CHANGELOG.md grows with each change that users see.)
-- A script, and a file in a language that no prover reads, has at most 400 lines. A function's body in Python (after its
-  docstring) or Rust has at most 40 lines; in Python its blocks nest at most three deep, where `with` isn't counted.
+- A script, and a file in a language that no prover reads, has at most 400 lines, besides the examples of docstrings. A function's
+  body in Python (after its docstring) or Rust has at most 40 lines; in Python its blocks nest at most three deep, where `with`
+  isn't counted.
 - A commit's subject has at most 72 characters.
 
 Its last line is 'N passed, M failed'.
@@ -35,6 +38,7 @@ import subprocess
 import sys
 
 import crate_rows
+import docstrings
 import lengths
 import statements
 from crate_docs import readmes
@@ -330,6 +334,7 @@ def main():
         "crates": [*crate_rows.unnamed(), *crate_rows.misplaced(), *crate_rows.misnamed()],
         "words": list(words_astray([*told, *rooms()])),
         "plain English": [*(it for page in pages for it in coined_words(page)), *memory_detours()],
+        "docstrings": list(docstrings.astray(TOP, COINED, OPENERS)),
         "READMEs of crates": [*long_rooms(), *readmes.stale(TOP)],
         "programs over the library": [*unshown_programs(), *unnamed_exports()],
         "statements": list(of_ours(statements.told_twice(TOP))),

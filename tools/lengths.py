@@ -1,10 +1,12 @@
-"""Lengths of what no prover reads: files, bodies of functions in Python and Rust, and in Python how deep their blocks nest."""
+"""Lengths of what no prover reads: files, bodies of functions in Python and Rust, and in Python how deep their blocks nest.
+
+Examples of docstrings in Python aren't counted: they are tests, which stand where their readers look."""
 from __future__ import annotations
 
 import ast
 import pathlib
 import re
-from typing import Iterable, Iterator, Tuple, Union
+from typing import Iterable, Iterator, List, Tuple, Union
 
 FILE, BODY, DEPTH = 400, 40, 3
 # Languages that no prover reads (texts are programs in Rattle and their tests), and scripts; what is no work of ours, or made.
@@ -14,10 +16,31 @@ RUST = re.compile(r"(?ms)^( *)(?:pub(?:\(\w+\))? )?fn (\w+)[^\n]*?(?:\n\1[ )][^\
 Function = Union[ast.FunctionDef, ast.AsyncFunctionDef]
 BLOCKS = (ast.If, ast.For, ast.AsyncFor, ast.While, ast.Try, ast.Match)
 APART_IN_IT = (ast.FunctionDef, ast.AsyncFunctionDef, ast.ClassDef)
+DOCUMENTED = (ast.Module, *APART_IN_IT)
 
 
 def is_python(path: pathlib.Path, text: str) -> bool:
     return path.suffix == ".py" or not path.suffix and text.startswith("#!") and "python" in text.partition("\n")[0]
+
+
+def docstrings(text: str) -> Iterator[List[str]]:
+    """Yields the lines of each docstring of a file."""
+    lines = text.splitlines()
+    for it in ast.walk(ast.parse(text)):
+        if isinstance(it, DOCUMENTED) and ast.get_docstring(it) is not None:
+            yield lines[it.body[0].lineno - 1:it.body[0].end_lineno]
+
+
+def of_examples(docstring: List[str]) -> int:
+    """Returns how many lines examples have, each from the blank line before it to the next one, or to the end."""
+    count, is_within = 0, False
+    for before, line in zip([""] + docstring, docstring):
+        if line.lstrip().startswith(">>> ") and not is_within:
+            is_within = True
+            count += not before.strip()
+        is_within = is_within and bool(line.strip())
+        count += is_within
+    return count
 
 
 def body_length(function: Function) -> int:
@@ -60,7 +83,8 @@ def too_long(top: pathlib.Path, names: Iterable[str]) -> Iterator[str]:
         if path.suffix not in WRITTEN or name.startswith(APART) or path.is_symlink() or not path.is_file():
             continue
         text = path.read_text(encoding="utf-8")
-        if (count := len(text.splitlines())) > FILE:
+        is_ours = is_python(path, text)
+        if (count := len(text.splitlines()) - (sum(map(of_examples, docstrings(text))) if is_ours else 0)) > FILE:
             yield f"{name} has {count} lines"
-        found = in_python(text) if is_python(path, text) else in_rust(text) if path.suffix in (".rs", ".txt") else ()
+        found = in_python(text) if is_ours else in_rust(text) if path.suffix in (".rs", ".txt") else ()
         yield from (f"{name}:{line}: {what}" for line, what in found)

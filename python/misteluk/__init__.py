@@ -1,15 +1,14 @@
 """Misteluk from Python: a graph that changes by batches, and sessions that hold its versions.
 
-    from misteluk import Store
+>>> from misteluk import Store
+>>> with Store() as store:
+...     store.insert("road", "hamburg", "kassel", 12, time=100)
+...     done = store.commit()
+...     print(store.open().levels("hamburg"))
+{'hamburg': 0, 'kassel': 1}
 
-    with Store(blocks=1024) as store:
-        store.insert("road", "hamburg", "kassel", 12, time=100)
-        store.commit()
-        session = store.open()
-        print(session.levels("hamburg"))
-
-Python's standard library is enough; numpy, pandas, networkx and tqdm are used where they are there. Errors that aren't named
-here are in `misteluk.errors`.
+Python's standard library is enough; numpy, pandas, networkx and tqdm are used if they are installed. The other errors are in
+`misteluk.errors`. Examples of calls go on from that of `Session`.
 """
 import importlib
 from typing import TYPE_CHECKING, Any, Dict, List

@@ -1,4 +1,6 @@
-"""What can go wrong, each with a name: which record, line and field, why, and what to do."""
+"""The errors of the client: each says what is wrong (record, line and field), why, and what to do.
+
+Examples go on from that of `misteluk.Session`, after `from misteluk.errors import *`."""
 from __future__ import annotations
 
 import importlib
@@ -11,7 +13,14 @@ if TYPE_CHECKING:
 
 
 class StoreError(Exception):
-    """Everything that this package raises of its own, but `ValueError` and `TypeError` for wrong arguments."""
+    """The base of this package's errors. Wrong arguments raise `ValueError` or `TypeError`.
+
+    >>> try:
+    ...     session.levels("ulm")
+    ... except StoreError as error:
+    ...     print(error)
+    NoVertex: levels('ulm'). The version that the session holds has no such name; a later one may
+    """
 
     def __reduce__(self) -> Tuple[Any, ...]:
         """What pickles it, as it stands: the errors of a part come from another process."""
@@ -26,7 +35,11 @@ def _as_it_stood(kind: Type[StoreError], told: Tuple[Any, ...], state: Dict[str,
 
 
 class Place(NamedTuple):
-    """Where an operation came from: a file or another feed, and its line there (for tables and graphs, the row, from 1)."""
+    """The place that an operation came from: a feed and a line in it; of tables and graphs the row, from 1.
+
+    >>> print(Place("roads.csv", 7))
+    roads.csv:7
+    """
 
     feed: str
     line: int
@@ -36,11 +49,17 @@ class Place(NamedTuple):
 
 
 class Refused(StoreError):
-    """An operation or a question was refused. It changed nothing.
+    """An operation or a question was refused, and changed nothing.
 
-    `word` is the word for that, `place` where the operation came from, `fault` the field and the reason, `advice` what to do, and
-    `told` all of it without the advice. Of a refused commit `applied` has what the batches before the refused one did, or `None`.
-    """
+    >>> try:
+    ...     store.insert("road", "", "bonn")
+    ... except Refused as error:
+    ...     refused = error
+    >>> refused.word, str(refused.fault)
+    ('BadName', "source '': a name has at least one byte")
+
+    `word` is the error's name, `place` where the operation came from, `fault` the field and the reason, `advice` what to do, and
+    `told` the text without the advice. `applied` has what the batches before a refused one did, or `None`."""
 
     word = ""
     advice = ""
@@ -61,106 +80,164 @@ class Refused(StoreError):
 
     @property
     def field(self) -> Optional[str]:
-        """Which field is wrong; `None` where none was named."""
+        """The name of the wrong field, or `None`.
+
+        >>> refused.field
+        'source'
+        """
         return self.fault.field if self.fault else None
 
     @property
     def reason(self) -> Optional[str]:
-        """Why it is refused; `None` where only the word is known."""
+        """Why the field is wrong; `None` if only the word is known.
+
+        >>> refused.reason
+        'a name has at least one byte'
+        """
         return self.fault.reason if self.fault else None
 
 
 class BadCommand(Refused):
-    """No command has this name."""
+    """A record's command has a name that no command has."""
 
 
 class BadFields(Refused):
-    """A command has another number of fields."""
+    """A record has more or fewer fields than its command takes."""
 
 
 class BadName(Refused):
-    """A name or kind is none: see `misteluk.names`."""
+    """A name is empty or has bytes that are no text, or a kind is `*`.
+
+    >>> store.insert("*", "kassel", "bonn")
+    Traceback (most recent call last):
+    misteluk.errors.BadName: BadName: kind '*': a kind is not *, which stands for any kind in a request
+    """
 
 
 class BadWeight(Refused):
-    """A weight is no whole number, or outside its limits."""
+    """A weight or amount is no number that the store's units have, or is outside the limits.
+
+    >>> store.insert("road", "kassel", "bonn", 230.5)
+    Traceback (most recent call last):
+    misteluk.errors.BadWeight: BadWeight: weight '230.5': a weight is a whole number, of at most 19 digits. ...
+    """
 
 
 class BadTime(Refused):
-    """A time, or an end of a window, is no whole number, or outside its limits."""
+    """A time, or an end of a window, is none that the store's units have, or is outside the limits.
+
+    >>> store.insert("road", "kassel", "bonn", 230, time="2024-05-01")
+    Traceback (most recent call last):
+    misteluk.errors.BadTime: BadTime: time '2024-05-01': ... Dates are taken by a store with times='iso' (--times iso)
+    """
 
     advice = "Dates are taken by a store with times='iso' (--times iso)"
 
 
 class BadSlot(Refused):
-    """A slot is no number from 0 to the number of seats minus 1."""
+    """A record's slot isn't a number from 0 to the number of seats minus 1."""
 
     advice = "Ask for more seats when the store is made (seats=, or --seats; 16 at most)"
 
 
 class NotOpen(Refused):
-    """No session is open in this slot."""
+    """A record asks a slot in which no session is open."""
 
     advice = "Open a session first"
 
 
 class AlreadyOpen(Refused):
-    """A session is open in this slot already."""
+    """A record opens a slot in which a session is open."""
 
     advice = "Close the session in that slot, or take another slot"
 
 
 class BadWindow(Refused):
-    """A window begins after it ends."""
+    """A window begins after its end.
+
+    >>> session.edges(since=3, until=2)
+    Traceback (most recent call last):
+    misteluk.errors.BadWindow: BadWindow: edges(since=3, until=2): since 3 is after until 2. ...
+    """
 
     advice = "A window begins no later than it ends"
 
 
 class NoKind(Refused, LookupError):
-    """The version that the session holds has no such kind."""
+    """The version has no edge of this kind, and never had one.
+
+    >>> session.edges(kind="river")
+    Traceback (most recent call last):
+    misteluk.errors.NoKind: NoKind: edges(kind='river'). ...
+    """
 
     advice = "The version that the session holds has no edge of this kind, and never had; a later one may"
 
 
 class NoVertex(Refused, LookupError):
-    """The version that the session holds has no such name."""
+    """The version has no vertex of this name.
+
+    >>> session.levels("ulm")
+    Traceback (most recent call last):
+    misteluk.errors.NoVertex: NoVertex: levels('ulm'). The version that the session holds has no such name; a later one may
+    """
 
     advice = "The version that the session holds has no such name; a later one may"
 
 
 class BatchFull(Refused):
-    """As many operations are pending as a batch has room for. They stay so."""
+    """A script's batch has as many operations as a batch can have, and refuses one more."""
 
     advice = "A batch has at most 4,096 operations: commit in between"
 
 
 class BatchLimit(Refused):
-    """As many batches were applied as the store takes."""
+    """The store has applied as many batches as its limits allow."""
 
-    advice = "Make batches larger, or begin the store anew from a session (Store.rebase)"
+    advice = "Make batches larger, or start the store over (Store.compact)"
 
 
 class NamesFull(Refused):
-    """With the batch there would be more names than the store takes."""
+    """A batch would make more vertices than the store takes.
+
+    >>> with Store(limits=Limits(vertices=3)) as small:
+    ...     loaded = small.load(roads[:2], by="set")
+    ...     small.load(roads[2:], by="set")
+    Traceback (most recent call last):
+    misteluk.errors.NamesFull: rows:1: NamesFull: the batch of lines 1 to 2 was refused, ...
+    """
 
     advice = "The names of removed edges count too"
 
 
 class KindsFull(Refused):
-    """With the batch there would be more kinds than the store takes."""
+    """A batch would make more kinds than the store takes.
+
+    >>> with Store(limits=Limits(kinds=1)) as small:
+    ...     loaded = small.load(roads[:3], by="set")
+    ...     small.load(roads[3:], by="set")
+    Traceback (most recent call last):
+    misteluk.errors.KindsFull: rows:1: KindsFull: the batch of lines 1 to 1 was refused, ...
+    """
 
     advice = "A graph has at most 64 kinds; those of removed edges count too"
 
 
 class TooLarge(Refused):
-    """A request is longer than a server takes. What was to be sent isn't in."""
+    """A request is longer than the server takes, and wasn't applied."""
 
     advice = "Send or ask less at once (batch=), or have the server take longer requests (--body)"
 
 
 class PoolEmpty(Refused):
-    """A batch needs as many free blocks as it has operations, and with an expiry as many more as are used. `needed` and `free`
-    say how many those are."""
+    """A batch found too few free blocks: it needs one for each operation, and with an expiry as many more as are used.
+
+    >>> with Store(blocks=16) as small:
+    ...     small.load(roads * 5, by="set", batch=20)
+    Traceback (most recent call last):
+    misteluk.errors.PoolEmpty: PoolEmpty: rows needs at least 20 blocks in batches of 20, and the store was made with 16; ...
+
+    `needed` and `free` are numbers of blocks; `free` is `None` if it isn't known."""
 
     advice = "Make batches smaller, or give the store more blocks"
 
@@ -186,9 +263,16 @@ def refusal(word: str, text: str = "", *, place: Optional[Place] = None, fault: 
 
 
 class BadRows(StoreError):
-    """Rows of a feed are no operations; nothing of the feed is loaded, or what `stands` says of one that is followed. `count`
-    says how many they are, `faults` has the first faults and the first of each rule, and `fault_counts` how many rows break each
-    rule, by its word and field."""
+    """Rows of a feed are bad. Nothing of the feed is loaded; if it is followed, the text says what is in.
+
+    >>> store.load([("bonn", "kassel", 230), ("bonn", "", 98)], by="set")
+    Traceback (most recent call last):
+    misteluk.errors.BadRows: rows: 1 of 2 rows can't be taken, and none is loaded
+      rows:2: BadName: target '': a name has at least one byte
+      ...
+
+    `count` is how many are bad, of `rows`; `faults` has the first ten faults and the first of each rule, and `fault_counts` how
+    many rows break each rule, by its word and field."""
 
     def __init__(self, feed: str, count: int, rows: int, faults: Sequence[Refused],
                  fault_counts: Optional[Dict[str, int]] = None, stands: str = "none is loaded") -> None:
@@ -205,7 +289,13 @@ class BadRows(StoreError):
 
 
 class OverLimit(StoreError):
-    """A feed is more than a store takes; nothing of it is loaded. `counts` says what was counted."""
+    """A feed is more than the store takes, and nothing of it is loaded. `counts` has what was counted.
+
+    >>> with Store(limits=Limits(vertices=2)) as small:
+    ...     small.load(roads, by="set")
+    Traceback (most recent call last):
+    misteluk.errors.OverLimit: rows has 4 vertices, where the store takes 2. ...
+    """
 
     def __init__(self, text: str, counts: Dict[str, int]) -> None:
         self.counts = counts
@@ -213,20 +303,45 @@ class OverLimit(StoreError):
 
 
 class NoSeat(StoreError):
-    """All seats hold sessions."""
+    """All seats of a store hold sessions.
+
+    >>> with Store(seats=1) as single:
+    ...     first, second = single.open(), single.open()
+    Traceback (most recent call last):
+    misteluk.errors.NoSeat: all 1 seats hold sessions: close one, or make the store with more seats (16 at most)
+    """
 
 
 class SessionClosed(StoreError):
-    """A request of a session that was closed, by itself or by a rebase; nothing was sent."""
+    """The session was closed, by itself or by `Store.compact`, or the server dropped it. Nothing was asked.
+
+    >>> session.close()
+    >>> session.vertices()
+    Traceback (most recent call last):
+    misteluk.errors.SessionClosed: the session of version 1 is closed
+    """
 
 
 class LeftOut(UserWarning):
-    """Something of a feed isn't loaded: a graph's nodes without an edge, since a store has the names of edges alone; or a table's
-    columns `kind`, `weight` and `time`, where no column was named."""
+    """A warning: a graph's nodes without edges aren't loaded, or a table's columns kind, weight and time aren't, if no column was
+    named.
+
+    >>> import warnings
+    >>> warnings.simplefilter("error", LeftOut)
+    >>> store.load({"source": ["bonn"], "target": ["ulm"], "weight": [270]}, by="set")
+    Traceback (most recent call last):
+    misteluk.errors.LeftOut: ...
+    """
 
 
 class Uncommitted(StoreError):
-    """The store was closed while operations were pending, or a feed was to be loaded; `operations` has them as records."""
+    """Operations are pending where none may be: a store was closed with them, or a feed is to be loaded. `operations` has them.
+
+    >>> store.insert("road", "bonn", "kassel", 230)
+    >>> store.load(roads, by="set")
+    Traceback (most recent call last):
+    misteluk.errors.Uncommitted: 1 operations are pending: commit or discard them before a load
+    """
 
     def __init__(self, text: str, operations: List[str]) -> None:
         self.operations = operations
@@ -234,25 +349,50 @@ class Uncommitted(StoreError):
 
 
 class FeedFault(StoreError):
-    """A file or graph isn't of the form that was said."""
+    """A file or graph isn't in the form that was given.
+
+    >>> store.load({"source": ["bonn"], "target": []}, by="set")
+    Traceback (most recent call last):
+    misteluk.errors.FeedFault: the columns aren't equally long: source has 1, target has 0
+    """
 
 
 class SaveFault(StoreError):
-    """A file is no saved version, or isn't as it was written. Nothing of it is restored."""
+    """A file is no saved version, or isn't as it was written. Nothing of it is restored.
+
+    >>> count = session.to_csv("roads.csv")
+    >>> Store.restore("roads.csv")
+    Traceback (most recent call last):
+    misteluk.errors.SaveFault: roads.csv is no saved version: ...
+    """
 
 
 class JournalError(StoreError):
-    """What a store's file has to do with. What was to be committed isn't in the store, and is pending still."""
+    """The base of errors with a store's file. Operations to be committed aren't in the store, and stay pending.
+
+    >>> with Store("roads.db") as kept:
+    ...     try:
+    ...         Store("roads.db")
+    ...     except JournalError as error:
+    ...         print(type(error).__name__)
+    Locked
+    """
 
 
 class NotWritten(JournalError):
-    """A batch couldn't be written to the store's file, as where the disk is full or the file is gone. What was there is there,
-    and sessions answer."""
+    """A batch couldn't be written to a store's file, as on a full disk. What was in the file is there, and sessions answer."""
 
 
 class JournalFault(JournalError):
-    """A store's file isn't as it was written, or a sync of it failed; the text says which. Nothing more is written to it until it
-    is opened again. `whole` is the last version that can be had (see `Store.at`), or `None` where that isn't known."""
+    """A store's file isn't as it was written, or a sync of it failed; nothing more is written to it until it is opened again.
+
+    >>> with open("notes.txt", "w") as file:
+    ...     count = file.write("These notes are no store's file.")
+    >>> Store("notes.txt")
+    Traceback (most recent call last):
+    misteluk.errors.JournalFault: ...
+
+    `whole` is the last version that `Store.at` can read, or `None` if that isn't known."""
 
     def __init__(self, text: str, whole: Optional[int] = None) -> None:
         self.whole = whole
@@ -260,12 +400,28 @@ class JournalFault(JournalError):
 
 
 class Locked(JournalError):
-    """Another process writes the store's file; the text says which."""
+    """Another process writes the store's file, or another store of this one does; the text says which process.
+
+    >>> with Store("roads.db") as kept:
+    ...     Store("roads.db")
+    Traceback (most recent call last):
+    misteluk.errors.Locked: ...
+    """
 
 
 class SequenceTaken(JournalError):
-    """A producer sent another batch by this number before, or a later one; or another batch came by this key. `last` is the
-    producer's last number, and `None` of a key."""
+    """A producer has sent another batch by this number or a later one, or another batch came by this key.
+
+    `last` is the producer's last number, and `None` for a key.
+
+    >>> with Store("roads.db") as kept:
+    ...     kept.insert("road", "kassel", "fulda", 105)
+    ...     first = kept.commit(producer="sensor", sequence=1)
+    ...     kept.insert("road", "fulda", "hanau", 98)
+    ...     kept.commit(producer="sensor", sequence=1)
+    Traceback (most recent call last):
+    misteluk.errors.SequenceTaken: sensor has sent another batch ...
+    """
 
     def __init__(self, text: str, last: Optional[int]) -> None:
         self.last = last
@@ -273,47 +429,72 @@ class SequenceTaken(JournalError):
 
 
 class ReadOnly(JournalError):
-    """A store as of a version takes no batches."""
+    """A store at a version takes no batches.
+
+    >>> with Store("roads.db") as kept:
+    ...     done = kept.commit()
+    >>> with Store.at("roads.db", version=1) as earlier:
+    ...     earlier.commit()
+    Traceback (most recent call last):
+    misteluk.errors.ReadOnly: the store is as of version 1, and is only read
+    """
 
 
 class ProgramNotFound(StoreError):
-    """There is no program `stinger`."""
+    """The program `stinger` isn't there."""
 
 
 class LibraryNotFound(StoreError):
-    """There is no library to load, or it isn't the one of this package. Its text has the next step."""
+    """The library isn't there, or isn't the one of this package. The text says the next step."""
 
 
 class NoMemory(StoreError, MemoryError):
-    """The library ran out of memory for a call. All is as it was before it."""
+    """The library ran out of memory for a call, which changed nothing."""
 
 
 class NoAnswer(StoreError, TimeoutError):
-    """A server was silent for as long as it may be. The call may be made again: a batch that was sent is waited for, and not
-    applied twice."""
+    """A server was silent for longer than `timeout`. Call again: a batch that was sent is waited for, and not applied twice."""
 
 
 class Busy(StoreError):
-    """Another one feeds the store that a server has: one does at a time."""
+    """Another client feeds the server's store: one does at a time.
+
+    >>> with connect("http://127.0.0.1:7700") as first, connect("http://127.0.0.1:7700") as second:
+    ...     done = first.commit()
+    ...     second.commit()
+    Traceback (most recent call last):
+    misteluk.errors.Busy: ...
+    """
 
 
 class NoServer(StoreError, ConnectionError):
-    """No server answers at this address, or it went away amid an answer. What was to be fed may be fed again by the same call:
-    the server takes no batch twice. `is_sent` says whether the request may have come to a server."""
+    """No server answers at this address, or it went away in the middle of an answer. The server applies no batch twice.
+
+    `is_sent` says whether the request may have reached a server.
+
+    >>> connect("unix:nowhere")
+    Traceback (most recent call last):
+    misteluk.errors.NoServer: ...
+    """
 
     is_sent = True
 
 
 class NotAllowed(StoreError, PermissionError):
-    """The server takes no call without the right token, nor one that it is told by a page of another origin."""
+    """The server refuses a call without the right token, or one from a page of another origin."""
 
 
 class Misread(StoreError):
-    """What came isn't the answer of a server that this package knows."""
+    """An answer isn't one of a server that this package knows."""
 
 
 class Missing(StoreError, ImportError):
-    """An optional package isn't there."""
+    """An optional package isn't installed; the text says how to install it.
+
+    >>> raise Missing("pandas", "a frame")
+    Traceback (most recent call last):
+    misteluk.errors.Missing: a frame needs pandas: apt-get install python3-pandas, or pip install pandas
+    """
 
     def __init__(self, package: str, what: str) -> None:
         super().__init__(f"{what} needs {package}: apt-get install python3-{package}, or pip install {package}")

@@ -10,11 +10,19 @@ if TYPE_CHECKING:
     from .values.units import Units
 
 By = Literal["set", "add"]
+"""Whether a later row of the same edge sets the weight or adds to it: `store.load(rows, by="add")`."""
+
 Sync = Literal["full", "normal", "off"]
+"""When a file's batches are on the disk: at each commit, or later: `Store("graph.db", sync="normal")`."""
 
 
 class RestoreOptions(TypedDict, total=False):
-    """The options of a store that is made of a saved version: see `Store`."""
+    """The options that `Store` and `Store.restore` share; `Store` explains them.
+
+    >>> with Store(seats=1) as single:
+    ...     print(single.seats)
+    1
+    """
 
     limits: Optional[Limits]
     seats: int
@@ -22,7 +30,13 @@ class RestoreOptions(TypedDict, total=False):
 
 
 class StoreOptions(RestoreOptions, total=False):
-    """The options of a store: see `Store`."""
+    """The options of `Store`, which explains them; a call of your own takes them as `**options: Unpack[StoreOptions]`.
+
+    >>> options: StoreOptions = {"blocks": 1024, "sync": "full"}
+    >>> with Store(**options) as small:
+    ...     print(small.blocks)
+    1024
+    """
 
     blocks: Optional[int]
     sync: Sync
@@ -30,7 +44,12 @@ class StoreOptions(RestoreOptions, total=False):
 
 
 class ReadOptions(TypedDict, total=False):
-    """How a feed is read: see `misteluk.feeds.opening.ReadAs`."""
+    """How a feed is read: the options that `load`, `follow` and `survey` share, whose help explains them.
+
+    >>> options: ReadOptions = {"columns": Columns("from", "to"), "encoding": "cp1252"}
+    >>> store.load({"from": ["bonn"], "to": ["kassel"]}, by="set", **options).commit.inserted
+    1
+    """
 
     columns: Columns
     format: Optional[Literal["delimited", "snap", "matrix"]]

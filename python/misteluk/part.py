@@ -13,15 +13,16 @@ BYTES_A_BLOCK, BYTES_A_NAME = 1_024, 100
 
 
 class Part:
-    """A store with the rows of one part, and a session of it.
+    """A store with the rows of one of many graphs and a session of it, which dask makes on a worker and asks there.
 
-        parts = {bank: client.submit(Part, rows, by="add", pure=False) for bank, rows in frame.groupby("bank")}
-        tables = {bank: client.submit(Part.ask, part, "degrees") for bank, part in parts.items()}
+    >>> part = Part(roads, by="set")
+    >>> part.session.vertex_count
+    4
+    >>> part.close()
 
-    `data` and the options are those of `Store.load`, and `store` has those of `Store`. A part is pickled as these, without its
-    graph: the process that gets it loads the rows again. So dask may make it again on another worker if its own is lost. Nobody
-    may change its store, since questions are asked of the session that was opened after the load.
-    """
+    `data` and the options are those of `Store.load`, and `store` is a dict of those of `Store`. A part is pickled as these,
+    without its graph: the process that gets it loads the rows again, and so may dask if a worker is lost (docs/FLEET.md). Nobody
+    may change its store, since `ask` asks the session that was opened after the load."""
 
     def __init__(self, data: Any, store: Optional[Mapping[str, Any]] = None, **load: Any) -> None:
         self._given: Tuple[Any, Optional[Mapping[str, Any]], Dict[str, Any]] = data, store, load
@@ -36,8 +37,14 @@ class Part:
             raise
 
     def ask(self, question: Union[str, Callable[..., Any]], *given: Any, **named: Any) -> Any:
-        """What a function of the session gives, or the session's call of this name, with further arguments. An iterator
-        comes as a list, which can be sent."""
+        """Returns what a call of the session gives, named by a text, or a function of the session.
+
+        Further arguments are passed on. An iterator comes as a list, which can be sent to another process.
+
+        >>> part = Part(roads, by="set")
+        >>> part.ask("edge", "rail", "kassel", "hanau").weight, part.ask(lambda session: session.edge_count)
+        (210, 4)
+        """
         if isinstance(question, str):
             answer = getattr(self.session, question)(*given, **named)
         else:

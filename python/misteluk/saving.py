@@ -49,8 +49,11 @@ _WRITTEN_AT_ONCE = 1 << 20
 
 @dataclass(frozen=True)
 class Saved:
-    """What a save wrote: the file, the version, its vertices and edges; how many records a run is given by the file, and how many
-    blocks it needs for them."""
+    """What a save wrote: the file's path, the version, its vertices and edges, and the records and blocks of a run by this file.
+
+    >>> session.save("roads.csv.gz").vertices
+    4
+    """
 
     path: str
     version: int

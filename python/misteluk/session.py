@@ -37,15 +37,23 @@ Ends = Tuple[str, str, str]
 
 
 class Session(Generic[W, T]):
-    """Holds a version: every answer is that version's, whatever is committed meanwhile. Close it, or use it in a `with`: a
-    session that is open keeps blocks from being freed.
+    """Holds a version of a store: each answer is of that version, whatever is committed meanwhile.
 
-    A request takes a `kind`, or any kind where none is given, and a window `since` .. `until` of times, both ends within: it
-    goes over the edges whose recent time, that of the last operation that touched them, is in the window. Times are in the
-    store's units; a date without a time of day begins a window with its day, and ends one with its day's end.
+    >>> from misteluk import *
+    >>> roads = [("kassel", "fulda", 105, 1, "road"), ("fulda", "hanau", 98, 2, "road"),
+    ...          ("hanau", "bonn", 180, 3, "road"), ("kassel", "hanau", 210, 4, "rail")]
+    >>> store = Store()
+    >>> loaded = store.load(roads, by="set")
+    >>> session = store.open()
 
-    Several threads may ask one session.
-    """
+    The examples of its methods, and of the classes of answers, go on from here. `version` is the version's number, and
+    `vertex_count` how many vertices it has. Close a session, or use it in a `with`: an open one keeps blocks from being freed.
+
+    A request takes a `kind`, or all kinds without it, and a window of times from `since` to `until`, both included. It covers the
+    edges whose recent time, that of the last operation on them, is in the window. Times are in the store's units; a date without
+    a time of day begins a window with its day, and ends one with the end of its day. A request raises `NoKind` or `NoVertex` for
+    a name that the version doesn't have, `BadWindow` if `since` is after `until`, and `SessionClosed` after `close`. Several
+    threads may use a session."""
 
     def __init__(self, store: "Store[W, T]", held: Held) -> None:
         self.store, self._held = store, held
@@ -55,7 +63,11 @@ class Session(Generic[W, T]):
 
     @property
     def is_open(self) -> bool:
-        """Whether the session holds its version still."""
+        """Whether the session still holds its version.
+
+        >>> session.is_open
+        True
+        """
         return self._held.is_open
 
     def _must_be_open(self) -> None:
@@ -119,7 +131,11 @@ class Session(Generic[W, T]):
     # Tables.
 
     def levels(self, source: str, kind: Optional[str] = None, since: Moment = 0, until: Moment = LAST) -> Answer[int]:
-        """The least number of edges on a walk from the source, for each vertex that one reaches."""
+        """Returns for each vertex that can be reached from `source` the least number of edges on a walk to it.
+
+        >>> session.levels("kassel")
+        {'kassel': 0, 'fulda': 1, 'hanau': 1, 'bonn': 2}
+        """
         scope, asked = self._scope("levels", kind, since, until, source)
         name = self._terms.asked(source)
         reached, levels = self._asked(self._held.levels, asked, scope, name)
@@ -128,7 +144,11 @@ class Session(Generic[W, T]):
         return self._answer("level", asked, {"level": Values(levels)}, names)
 
     def components(self, kind: Optional[str] = None, since: Moment = 0, until: Moment = LAST) -> Components:
-        """A label for each vertex: the first of the vertices that walks join to it, direction ignored."""
+        """Returns each vertex's component, direction ignored, by a label: the first vertex of the component.
+
+        >>> session.components("rail")
+        {'kassel': 'kassel', 'fulda': 'fulda', 'hanau': 'kassel', 'bonn': 'bonn'}
+        """
         scope, asked = self._scope("components", kind, since, until)
         labels, names = self._asked(self._held.labels, asked, scope), self._all_names()
         columns = {"label": Values(labels, lambda it: list(map(names.__getitem__, it)))}
@@ -136,19 +156,32 @@ class Session(Generic[W, T]):
         return found
 
     def cores(self, kind: Optional[str] = None, since: Moment = 0, until: Moment = LAST) -> Answer[int]:
-        """Core numbers (Seidman 1983): the greatest k so that the vertex is in a set of which each has k neighbors in it."""
+        """Returns each vertex's core number (Seidman 1983), direction ignored. This is the greatest k so that the vertex is in a
+        set of vertices, each of which has at least k neighbors in the set.
+
+        >>> session.cores()
+        {'kassel': 2, 'fulda': 2, 'hanau': 2, 'bonn': 1}
+        """
         scope, asked = self._scope("cores", kind, since, until)
         return self._answer("core", asked, {"core": Values(self._asked(self._held.cores, asked, scope))})
 
     def degrees(self, kind: Optional[str] = None, since: Moment = 0, until: Moment = LAST) -> Answer[Degree[W]]:
-        """For each vertex how many edges go out and come in, and the weight that goes out. An edge in the window counts with its
-        whole weight, of which a part may be older."""
+        """Returns how many edges go out of each vertex and come in, and the weight that goes out. An edge in the window counts
+        with its whole weight, of which a part may be older.
+
+        >>> session.degrees()["kassel"]
+        Degree(out=2, into=0, weight_out=315)
+        """
         scope, asked = self._scope("degrees", kind, since, until)
         found = self._asked(self._held.degrees, asked, scope)
         return self._answer("degree", asked, degrees(*found, self._terms.units.weights_told))
 
     def weights_in(self, kind: Optional[str] = None, since: Moment = 0, until: Moment = LAST) -> Answer[W]:
-        """For each vertex the weight that comes in. An edge in the window counts with its whole weight, as in `degrees`."""
+        """Returns the weight that comes into each vertex. An edge in the window counts as in `degrees`.
+
+        >>> session.weights_in()
+        {'kassel': 0, 'fulda': 105, 'hanau': 308, 'bonn': 180}
+        """
         scope, asked = self._scope("weights_in", kind, since, until)
         found = self._asked(self._held.edges, asked, scope)
         weights = Values(found.weights_in(self.vertex_count), self._terms.units.weights_told)
@@ -157,7 +190,11 @@ class Session(Generic[W, T]):
     # One edge, and all.
 
     def edge(self, kind: str, source: str, target: str) -> Optional[Edge[W, T]]:
-        """One edge, or `None`. Raises `NoKind` or `NoVertex` for names that the version doesn't have."""
+        """Returns one edge, or `None` if the version has the kind and both vertices but not the edge.
+
+        >>> session.edge("rail", "kassel", "hanau")
+        Edge(weight=210, first=4, recent=4)
+        """
         ends = kind, source, target
         try:  # (in few steps, as in `_beside`)
             marks = self._held.edge(self._ends(ends))
@@ -183,9 +220,12 @@ class Session(Generic[W, T]):
     def get_edges(self, ends: Iterable[Ends]) -> "List[Optional[Edge[W, T]]]": ...
 
     def get_edges(self, ends: Iterable[Ends], *, missing: Any = RAISE) -> Any:
-        """Many edges by their kinds, sources and targets: for each of `ends` an `Edge`, or `None` where the version has the names
-        and not the edge. Raises `NoKind` or `NoVertex` for names that it doesn't have; `missing=` is given in place of such an
-        edge."""
+        """Returns a list with an `Edge` for each kind, source and target in `ends`, or `None` as `edge` does. If `missing` is
+        given, it stands for an edge of which the version doesn't have a name, and nothing is raised.
+
+        >>> session.get_edges([("road", "kassel", "fulda"), ("road", "kassel", "bonn"), ("road", "kassel", "ulm")], missing=0)
+        [Edge(weight=105, first=1, recent=1), None, 0]
+        """
         asked = list(ends)
         for it in asked:
             if isinstance(it, str) or len(it) != 3:
@@ -203,35 +243,61 @@ class Session(Generic[W, T]):
         return found
 
     def edges(self, kind: Optional[str] = None, since: Moment = 0, until: Moment = LAST) -> "Edges[W, T]":
-        """All edges, or those of a kind and a window: a sequence of (kind, source, target, `Edge`), with `.frame()` as a pandas
-        frame, `.columns` as arrays, and `.where(mask)`. See `misteluk.Edges`."""
+        """Returns all edges as `Edges`: arrays with names, and a sequence of (kind, source, target, `Edge`).
+
+        >>> for kind, source, target, edge in session.edges(since=4):
+        ...     print(kind, source, target, edge.weight)
+        rail kassel hanau 210
+        """
         scope, asked = self._scope("edges", kind, since, until)
         return self._edges(self._asked(self._held.edges, asked, scope))
 
     def to_networkx(self, kind: Optional[str] = None, since: Moment = 0, until: Moment = LAST) -> "networkx.MultiDiGraph":
-        """All edges as a networkx graph, with every name of the version as a node, in order. An edge's key is its kind; it has
-        the attributes `kind`, `weight`, `first` and `recent`."""
+        """Returns all edges as a networkx graph, with every name of the version as a node, in order. An edge's key is its kind;
+        it has the attributes `kind`, `weight`, `first` and `recent`.
+
+        >>> session.to_networkx().edges["kassel", "hanau", "rail"]["weight"]  # needs networkx
+        210
+        """
         return self.edges(kind, since, until).to_networkx(version=self.version)
 
     def to_igraph(self, kind: Optional[str] = None, since: Moment = 0, until: Moment = LAST) -> "igraph.Graph":
-        """All edges as a directed igraph graph, whose vertices have the version's numbers, and its names as `name`. Edges have
-        `kind`, `weight`, `first` and `recent`."""
+        """Returns all edges as a directed igraph graph, whose vertices are numbered as in the version and have `name`. Edges have
+        the attributes `kind`, `weight`, `first` and `recent`.
+
+        >>> session.to_igraph().es["kind"].count("road")  # needs igraph
+        3
+        """
         return self.edges(kind, since, until).to_igraph(version=self.version)
 
     def to_scipy(self, kind: Optional[str] = None, since: Moment = 0, until: Moment = LAST) -> "scipy.sparse.csr_matrix":
-        """The weights as a sparse matrix: row and column are the numbers of source and target, whose names
-        `edges().names` has. Of several kinds the weights are summed. Weights are in the parts that
-        the store counts (`units.weight_scale`)."""
+        """Returns the weights as a sparse matrix: row and column are the numbers of source and target, by `edges().names`.
+        Weights of several kinds are summed, in the parts that the store counts (see `Units.weight_scale`).
+
+        >>> session.to_scipy().shape  # needs scipy
+        (4, 4)
+        """
         return self.edges(kind, since, until).to_scipy()
 
     def to_csv(self, path: Path, kind: Optional[str] = None, since: Moment = 0, until: Moment = LAST) -> int:
-        """Writes all edges as CSV in UTF-8 with a header, kind, source, target, weight, first and recent, and gives how many they
-        are. The file is written beside and renamed when it is whole: a fault or an interrupt leaves what was there."""
+        """Writes all edges as CSV in UTF-8 with a header, and returns how many there are. The columns are kind, source, target,
+        weight, first and recent. The file is written under another name and renamed when it is whole: an error or an interrupt
+        leaves what was there.
+
+        >>> session.to_csv("roads.csv")
+        4
+        """
         return self.edges(kind, since, until).to_csv(path)
 
     def diff(self, later: "Session[Any, Any]", kind: Optional[str] = None, since: Moment = 0, until: Moment = LAST) -> Diff[W, T]:
-        """What became of this version's edges in a later one, or in another store's with the same units: which are gone, which
-        are new, and which have another weight or time. See `misteluk.Diff`."""
+        """Returns what became of this version's edges in a later one: those gone, new, and with another weight or time. The later
+        session may be of another store, if its units are the same; `ValueError` if they aren't.
+
+        >>> store.remove("rail", "kassel", "hanau")
+        >>> done = store.commit()
+        >>> session.diff(store.open())
+        <Diff: 1 gone, 0 new, 0 changed>
+        """
         if not later._terms.units.shows_as(self._terms.units):
             raise ValueError(f"the sessions' stores have other units: {self._terms.units}, and {later._terms.units}")
         return Diff(*(it._edges_or_none(kind, since, until) for it in (self, later)))
@@ -256,29 +322,48 @@ class Session(Generic[W, T]):
         return self._edges(self._asked(call, asked, scope, self._terms.asked(vertex)))
 
     def out_edges(self, source: str, kind: Optional[str] = None, since: Moment = 0, until: Moment = LAST) -> "Edges[W, T]":
-        """The edges that go out of the source, each kind's apart, as arrays with names."""
+        """Returns the edges that go out of a vertex as `Edges`, those of several kinds one by one.
+
+        >>> session.out_edges("hanau")[0]
+        ('road', 'hanau', 'bonn', Edge(weight=180, first=3, recent=3))
+        """
         return self._beside(source, kind, since, until, True)
 
     def in_edges(self, target: str, kind: Optional[str] = None, since: Moment = 0, until: Moment = LAST) -> "Edges[W, T]":
-        """The edges that come into the target; as `out_edges`. The first such question puts all edges of the version in order
-        of their targets, which is kept with the session."""
+        """Returns the edges that come into a vertex, as `out_edges` does. The first such request sorts all edges of the version
+        by target, and the session keeps the result.
+
+        >>> session.in_edges("bonn")[0]
+        ('road', 'hanau', 'bonn', Edge(weight=180, first=3, recent=3))
+        """
         return self._beside(target, kind, since, until, False)
 
     def successors(self, source: str, kind: Optional[str] = None, since: Moment = 0,
                    until: Moment = LAST) -> Dict[str, Edge[W, T]]:
-        """The edges that go out of the source, by target. Of several kinds to one target the weights are summed, with the least
-        first time and the greatest recent one."""
+        """Returns the edges that go out of a vertex, by target. Edges of several kinds to one target become one `Edge`: the sum
+        of the weights, the least `first` and the greatest `recent`.
+
+        >>> session.successors("hanau")
+        {'bonn': Edge(weight=180, first=3, recent=3)}
+        """
         return walks.summed(self.out_edges(source, kind, since, until), 2)
 
     def predecessors(self, target: str, kind: Optional[str] = None, since: Moment = 0,
                      until: Moment = LAST) -> Dict[str, Edge[W, T]]:
-        """Who sends to the target: the edges that come in, by source; as `successors`."""
+        """Returns the edges that come into a vertex, by source, as `successors` does.
+
+        >>> session.predecessors("fulda")
+        {'kassel': Edge(weight=105, first=1, recent=1)}
+        """
         return walks.summed(self.in_edges(target, kind, since, until), 1)
 
     def neighbors(self, vertex: str, kind: Optional[str] = None, since: Moment = 0,
                   until: Moment = LAST) -> Dict[str, Neighbor[W, T]]:
-        """The vertices that an edge joins to this one, in either direction, each with the edge to it and the edge from it; as
-        `successors` and `predecessors`."""
+        """Returns the vertices that an edge joins to this one, each with the edges to it and from it, as `successors` does.
+
+        >>> session.neighbors("bonn")
+        {'hanau': Neighbor(out=None, into=Edge(weight=180, first=3, recent=3))}
+        """
         out, into = self.successors(vertex, kind, since, until), self.predecessors(vertex, kind, since, until)
         return {it: Neighbor(out.get(it), into.get(it)) for it in {**out, **into}}
 
@@ -292,8 +377,13 @@ class Session(Generic[W, T]):
 
     def path(self, source: str, target: str, kind: Optional[str] = None, since: Moment = 0, until: Moment = LAST, *,
              edges: bool = False) -> Any:
-        """A shortest walk from the source to the target, along edges, as the names on it with both ends; `None` where there is
-        none. With `edges=True` as its edges, (kind, source, target, `Edge`) each, one of several kinds that join two names."""
+        """Returns the names on a walk with the fewest edges from source to target, both included, or `None` if there is none.
+        With `edges=True` it returns the edges, (kind, source, target, `Edge`) each, one of them where several kinds join two
+        names.
+
+        >>> session.path("kassel", "bonn", kind="road")
+        ['kassel', 'fulda', 'hanau', 'bonn']
+        """
         scope, asked = self._scope("path", kind, since, until, target)
         levels = self.levels(source, kind, since, until)
         if target not in levels:
@@ -306,8 +396,12 @@ class Session(Generic[W, T]):
 
     def neighborhood(self, vertex: str, hops: int, kind: Optional[str] = None, since: Moment = 0, until: Moment = LAST, *,
                      directed: bool = True) -> Answer[int]:
-        """The vertices that are reached from this one in at most so many steps, and in how many. With `directed=False` a step
-        goes along an edge either way."""
+        """Returns the vertices that walks of at most `hops` edges from this vertex reach, each with its least number of edges.
+        With `directed=False` a walk follows edges in either direction. `ValueError`: `hops` is less than 0.
+
+        >>> session.neighborhood("bonn", 1, directed=False)
+        {'bonn': 0, 'hanau': 1}
+        """
         if operator.index(hops) < 0:
             raise ValueError(f"hops is 0 or more, and not {hops}")
         if directed:
@@ -321,24 +415,40 @@ class Session(Generic[W, T]):
     # What it is, and its end.
 
     def vertices(self) -> Tuple[str, ...]:
-        """The names of all vertices, in the version's order: also those that had an edge before, and have none now."""
+        """Returns the names of all vertices in the version's order, also of those whose edges are all removed.
+
+        >>> session.vertices()
+        ('kassel', 'fulda', 'hanau', 'bonn')
+        """
         self._must_be_open()
         return self._all_names()
 
     def kinds(self) -> Tuple[str, ...]:
-        """The kinds that edges have, or had."""
+        """Returns the kinds that edges have or had.
+
+        >>> session.kinds()
+        ('road', 'rail')
+        """
         self._must_be_open()
         return self._all_kinds()
 
     def has_vertex(self, name: str) -> bool:
-        """Whether the version has a vertex of this name."""
+        """Whether the version has a vertex of this name.
+
+        >>> session.has_vertex("ulm")
+        False
+        """
         with suppress(NoVertex, BadName):
             self.out_edges(name)
             return True
         return False
 
     def has_edge(self, kind: str, source: str, target: str) -> bool:
-        """Whether the version has the edge."""
+        """Whether the version has the edge; `False` also if it doesn't have one of the names.
+
+        >>> session.has_edge("road", "kassel", "fulda")
+        True
+        """
         try:
             return self._some_edges([(kind, source, target)], None) != [None]
         except BadName:
@@ -346,25 +456,37 @@ class Session(Generic[W, T]):
 
     @property
     def edge_count(self) -> int:
-        """How many edges the version has."""
+        """The number of edges.
+
+        >>> session.edge_count
+        4
+        """
         return sum(self._held.degrees(Scope())[0])
 
     def save(self, path: Path, *, progress: Optional[bool] = None) -> "Saved":
-        """Writes the version as one file, of which `Store.restore` makes a store again, and which `stinger run` takes as a
-        script, unless it has more than 999,999 records. It is packed where its name ends in .gz, .xz or .bz2, or .zst where the
-        package zstandard is there.
+        """Writes the version to one file, from which `Store.restore` makes a store.
 
-        The file is written beside and renamed when it is whole and on the disk: a fault, an interrupt or a crash leaves what
-        was there, and a killed process perhaps a file beside it that ends in .part. Links and a file's rights stay. It has all
-        that answers depend on, and the store's units and names. Pending operations and other versions aren't in it.
+        >>> session.save("roads.csv.gz").edges
+        4
 
-        A copy takes two records for an edge whose times differ, for a name that has no edge in its place, and for each batch.
-        Raises `OSError` where the file can't be written, and `Missing` where nothing here packs it."""
+        The file has everything that answers depend on, with the store's units and names, but neither pending operations nor other
+        versions. The end of its name chooses a compression: .gz, .xz, .bz2, or .zst with the package zstandard. `progress` shows
+        or hides a bar. Up to 999,999 records it is a script for `stinger run`, with two records for an edge whose times differ,
+        for a name without an edge in its place, and for each batch.
+
+        The file is written under another name and renamed when it is whole and on the disk: an error, an interrupt or a crash
+        leaves what was there, a killed process perhaps a file that ends in .part. Links and a file's rights stay. Raises
+        `OSError` if it can't be written, and `Missing` if nothing here compresses it."""
         from .saving import save
         return save(self, path, progress)
 
     def close(self) -> None:
-        """Lets the version go."""
+        """Ends the session, so that collections may free the blocks of its version.
+
+        >>> session.close()
+        >>> session.is_open
+        False
+        """
         if not self.store._engine.is_elsewhere and not self.store.is_closed:
             self._held.close()
 

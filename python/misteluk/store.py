@@ -40,32 +40,36 @@ R = TypeVar("R")
 
 
 class Store(Uncopied, Generic[W, T]):
-    """A graph that changes by batches; sessions hold versions of it.
+    """A graph that changes by batches, and whose versions sessions hold.
 
-        with Store() as store:
-            store.add("transfer", "ana", "funnel", 980, time=1)
-            store.commit()
-            with store.open() as session:
-                print(session.degrees("transfer"))
+    >>> from misteluk import *
+    >>> store = Store()
+    >>> for road in (("road", "kassel", "fulda", 105, 1), ("road", "fulda", "hanau", 98, 2),
+    ...              ("road", "hanau", "bonn", 180, 3), ("rail", "kassel", "hanau", 210, 4)):
+    ...     store.insert(*road)
+    >>> store.commit().inserted
+    4
+    >>> session = store.open()
 
-    `insert`, `add` and `remove` are collected here and checked at once; `commit` applies them. Where a commit is refused, what
-    it would have applied is pending still. The graph lives as long as the store, but for versions that sessions save as files,
-    or in its own file: `Store("graph.db")` makes it or goes on with it, and every batch is in it before anybody sees it
-    (docs/DURABLE.md); so are units and limits. `sync="full"` has each batch on the disk before `commit` returns; with "normal" or
-    "off" a loss of power may cost the last ones. `history`: how many versions are kept, or of how long ago (`timedelta`).
-    The store is a library's, in this process: `LibraryNotFound` where it can't be loaded.
+    The examples of its methods go on from here. An operation (`insert`, `add`, `remove`, `expire`) is checked at once and is then
+    pending; `commit` applies what is pending. If a commit is refused, its operations stay pending. `with Store() as store` closes
+    the store at the end.
 
-    `units`: what weights and times are counted in (see `misteluk.Units`). Where neither weights nor times are given, the first
-    load says both, unless an operation came before it.
-    `blocks`: how many blocks hold edges, from 16 on; each has room for 32 edges of one kind and source, and takes 1 KB once it is
-    used. Else there are 65,536, and more once they are needed. `limits`: how many vertices, kinds and batches the store takes at
-    most, and how large a weight (see `misteluk.Limits`). `seats`: how many sessions may be open at once, 1 to 16. Any text is a
-    name, of a vertex or a kind, but an empty one; `*` alone is no kind. See `misteluk.names`.
-    `endless`: whether names and kinds that have no edge are let go where there would be too many (see `compact`).
+    The graph ends with the store, which is in this process (`LibraryNotFound`: its library can't be loaded). `Store("graph.db")`
+    has a file: it makes the file or goes on with what the file has, units and limits included, and writes each batch before
+    anybody sees it (docs/DURABLE.md).
 
-    An `until` without a time of day is its day's end, where times are dates. Several threads may use one store. An interrupt
-    comes after a call of the library: what was applied is known to the next call. A fork can't use the store, and it has no copy.
-    """
+    - `units`: what weights and times are counted in (`Units`); the first load may set them if no operation came before it.
+    - `blocks`: how many blocks there are, 16 or more. A block takes 1 KB once it is used, and has room for 32 edges of one kind
+      and source. Without it there are 65,536, and more when they are needed.
+    - `limits`: how many vertices, kinds and batches there may be, and the greatest weight (`Limits`).
+    - `seats`: how many sessions may be open at once, 1 to 16.
+    - `endless`: whether names and kinds without an edge are dropped when there would be too many (see `compact`).
+    - `sync`: "full" has each batch on the disk before `commit` returns; with "normal" or "off" a loss of power may cost some.
+    - `history`: how many versions the file keeps, or of how long ago (a `timedelta`).
+
+    Any text but the empty one is a name; `*` is no kind. Several threads may use a store. A forked process can't, and a store
+    can't be copied. An interrupt is raised after a call of the library, so the next call knows what was applied."""
 
     _is_closed = True
 
@@ -101,59 +105,110 @@ class Store(Uncopied, Generic[W, T]):
     # Operations.
 
     def insert(self, kind: str, source: str, target: str, weight: Amount = 1, time: Moment = 0) -> None:
-        """Adds an edge, or sets the weight of the one that is there."""
+        """Adds an edge, or sets the weight of the edge that is there.
+
+        `weight` and `time` are in the store's units; `time` becomes the edge's recent time. Raises `BadName`, `BadWeight` or
+        `BadTime`, and keeps nothing then.
+
+        >>> store.insert("road", "bonn", "kassel", 230, time=5)
+        >>> store.commit().inserted
+        1
+        """
         self._ledger.keep(INSERT, kind, source, target, weight, time)
 
     def add(self, kind: str, source: str, target: str, amount: Amount = 1, time: Moment = 0) -> None:
-        """Adds to the weight of the edge that is there, or adds the edge. Repeated transfers want this one."""
+        """Adds to the weight of the edge that is there, or adds the edge, as for repeated transfers.
+
+        >>> store.add("rail", "kassel", "hanau", 40, time=5)
+        >>> store.commit().updated
+        1
+        """
         self._ledger.keep(ADD, kind, source, target, amount, time)
 
     def remove(self, kind: str, source: str, target: str) -> None:
-        """Takes the edge away; that there was none the receipt of `commit` counts."""
+        """Removes an edge. If there is none, `commit` counts the operation as `absent`.
+
+        >>> store.remove("rail", "kassel", "hanau")
+        >>> store.commit().removed
+        1
+        """
         self._ledger.keep(REMOVE, kind, source, target, 0, 0)
 
     def expire(self, time: Moment) -> None:
-        """Takes away each edge whose recent time is before this time; the receipt of `commit` counts them. Its batch asks for as
-        many free blocks more as are used."""
+        """Removes each edge whose recent time is before `time`; `commit` counts them as `expired`.
+
+        Its batch needs as many free blocks more as are used.
+
+        >>> store.expire(3)
+        >>> store.commit().expired
+        2
+        """
         self._ledger.keep(EXPIRE, "", "", "", 0, time)
 
     @property
     def blocks(self) -> int:
-        """How many blocks it has. They become more once they are needed, where none were said."""
+        """The number of blocks. It grows when the store needs more, unless `Store(blocks=)` set it.
+
+        >>> store.blocks
+        65536
+        """
         return self._engine.blocks
 
     @property
     def pending(self) -> int:
-        """How many operations wait for a commit."""
+        """The number of operations that wait for a commit.
+
+        >>> store.expire(3)
+        >>> store.pending
+        1
+        """
         return len(self._ledger.pending)
 
     @property
     def kinds(self) -> List[str]:
-        """The kinds that this store was told of, in order."""
+        """The kinds that operations and feeds have named, in order.
+
+        >>> store.kinds
+        ['road', 'rail']
+        """
         self._ledger.settle()
         return list(self._ledger.kinds)
 
     @property
     def units(self) -> Units[W, T]:
-        """What weights and times are counted in."""
+        """What weights and times are counted in.
+
+        >>> store.units
+        Units(weight_scale=1, times='number', decimals='decimal', rounding=None)
+        """
         self._ledger.settle()
         return self._ledger.terms.units.settled()
 
     def discard(self) -> int:
-        """Lets the pending operations go, and returns how many they were; those that are on their way stay."""
+        """Drops the pending operations and returns how many there were. Those of a batch that was sent stay.
+
+        >>> store.expire(3)
+        >>> store.discard()
+        1
+        """
         return self._ledger.discard()
 
     def commit(self, *, collect: bool = True, batch: int = records.MOST_OPERATIONS, producer: Optional[str] = None,
                sequence: Optional[int] = None) -> Commit:
-        """Applies the pending operations, in batches of at most `batch` (4,096 at most), and also where there are none.
+        """Applies the pending operations, and returns what they did.
 
-        A collection follows each batch, as in a load, unless `collect=False`. A refused batch changes nothing, and stays pending
-        with those after it: `PoolEmpty`, `NamesFull`, `KindsFull`, `BatchLimit` say why, and have as `applied` what the batches
-        before it did. Where an interrupt broke a commit off, a batch that was begun is applied once, and those after it
-        stay pending; the next commit has in its sums what wasn't told.
+        They go in batches of at most `batch` operations, 1 to 4,096. If none is pending, one empty batch makes a version. A
+        collection follows each batch, unless `collect=False`. A refused batch changes nothing, and stays pending with those after
+        it; the error (`PoolEmpty`, `NamesFull`, `KindsFull`, `BatchLimit`) has as `applied` what the batches before it did. If an
+        interrupt ends a commit, the batch that was begun is applied once, and those after it stay pending; the next commit counts
+        it too.
 
-        With `producer` and `sequence`, a number that grows, a store that has a file applies what is pending, at most 65,536
-        operations, as one batch and once: the same commit again gets the first one's answer, over restarts too.
+        With `producer` and `sequence`, a number that grows, a store with a file applies what is pending, at most 65,536
+        operations, as one batch and once: the same commit again returns the first one's answer, also after a restart.
+
+        >>> store.remove("rail", "kassel", "bonn")
+        >>> store.commit()
+        Commit(version=2, inserted=0, updated=0, removed=0, absent=1, overflowed=0, batches=1, expired=0)
         """
         try:
             if producer is None and sequence is None:
@@ -171,28 +226,38 @@ class Store(Uncopied, Generic[W, T]):
     @reads
     def load(self, data: Any, *, by: "By", batch: Optional[int] = None, collect: bool = True, skip_bad: bool = False,
              rejects: Optional[Path] = None, progress: Optional[bool] = None, **read_as: "Unpack[ReadOptions]") -> "Loaded":
-        """Loads a file's path (`-` is standard input), a networkx graph, a pandas frame, columns by name, rows, or a `Survey`.
+        """Loads a path (`-` is standard input), a networkx graph, a pandas frame, columns by name, rows, or a `Survey`.
 
-            store.load("transfers.csv", by="add", columns=Columns("from", "to", weight="amount"))
+        >>> store.load([("bonn", "kassel", 230, 5, "road")], by="set").commit.inserted
+        1
 
-        `by` is "set" or "add": whether a later row of the same kind, source and target replaces the first one's weight or adds to
-        it. Rows are applied in batches of `batch`, 1 to 4,096, each a version, which a collection follows unless `collect` is
-        false. Without it they have up to 65,536 rows, as far as blocks are free; an empty store takes them in one step.
+        A later row of the same kind, source and target replaces the weight of the first with `by="set"`, and adds to it with
+        `by="add"`. Rows are applied in batches of `batch`, 1 to 4,096, each of which makes a version; a collection follows each,
+        unless `collect=False`. Without `batch` they have up to 65,536 rows, as far as blocks are free; an empty store takes them
+        in one step.
 
-        Everything is read and checked first: `BadRows` names bad rows by line, field and reason (`skip_bad` passes them over, and
-        counts them), `OverLimit` says what is more than a store takes, with counts, and nothing was applied. Where a store that
-        holds edges or sessions refuses a batch, `PoolEmpty` or another error says which lines are not in, and all lines before
-        them are. A feed that is loaded again adds its rows again. `ValueError`: the feed's units aren't the store's.
+        Everything is read and checked first. Nothing is applied if rows are bad (`BadRows` has line, field and reason; `skip_bad`
+        skips and counts them), if the feed is more than the store takes (`OverLimit`, with counts), or if its units aren't the
+        store's (`ValueError`). If a store that holds edges or sessions refuses a batch, `PoolEmpty` or another error says which
+        lines are not in, and all lines before them are. A feed that is loaded again adds its rows again.
 
-        `rejects`: a file to which bad rows are appended as they came, with two columns more, `line` and `reason`; the others are
-        loaded. Mended rows are loaded from it by the same options. `progress` shows or hides a bar; else a terminal has one."""
+        `rejects`: a file to which bad rows are appended as they came, with two more columns, `line` and `reason`; the others are
+        loaded. Mended rows are loaded from it with the same options. `progress` shows or hides a bar; without it only a terminal
+        has one."""
         from .feeds.loading import load
         return load(self, data, by=by, batch=batch, collect=collect, skip_bad=skip_bad, rejects=rejects, progress=progress,
                     **read_as)
 
     def load_in_steps(self, survey: "Survey", *, collect: bool = True, skip_bad: bool = False) -> Iterator[Commit]:
-        """Loads a survey in its own batches: what each did is given before the next is applied, and sessions can be opened
-        between."""
+        """Loads a survey by its own batches: returns an iterator of what each did, which applies the next one only when it goes
+        on.
+
+        Sessions can be opened in between. Options and errors are those of `load`.
+
+        >>> found = survey([("bonn", "kassel", 230), ("kassel", "bonn", 230)], by="set", batch=1)
+        >>> [done.version for done in store.load_in_steps(found)]
+        [2, 3]
+        """
         from .feeds.loading import load_in_steps
         return load_in_steps(self, survey, collect=collect, skip_bad=skip_bad)
 
@@ -201,22 +266,25 @@ class Store(Uncopied, Generic[W, T]):
                ahead: "Optional[Span]" = None, batch: int = records.MOST_OPERATIONS, until_end: bool = False,
                skip_bad: bool = False, rejects: Optional[Path] = None, progress: Optional[bool] = None,
                **read_as: "Unpack[ReadOptions]") -> "Following":
-        """Follows a file that grows, standard input (`-`), or what has a descriptor, as a pipe: each step is a commit.
+        """Follows a file that grows, standard input (`-`), or an open pipe or socket: each step of the result is a commit.
 
-            with store.follow("transfers.csv", by="add", columns=Columns("from", "to", weight="amount")) as following:
-                for step in following:
-                    print(step)
+        >>> session.to_csv("roads.csv")
+        4
+        >>> columns = Columns(kind="kind", weight="weight", time="recent")
+        >>> with store.follow("roads.csv", by="set", columns=columns, until_end=True) as following:
+        ...     print(*following)
+        version 2: 4 rows to line 5, 4 updated; newest 4
 
         A commit comes when a row has waited for `every` (seconds, or a text as "500ms"), or when its batch has `batch`
-        operations. With `keep` each commit expires the edges with a recent time before the newest of the feed minus `keep`: a
-        length of time, as "14d", where times are dates, and else a whole number. A date that is more than `ahead`, as "1h", ahead
-        of the clock here is a bad row; with `keep` that is "1d" if nothing is given.
+        operations, 1 to 4,096. With `keep`, each commit expires the edges whose recent time is before the newest of the feed
+        minus `keep`: a length of time, as "14d", if times are dates, and else a whole number. A date more than `ahead`, as "1h",
+        ahead of the clock here is a bad row; with `keep` that is "1d" if it isn't given.
 
-        A file is followed beyond its end, unless `until_end`; a pipe ends where its writers do, and `Following.stop` ends the
-        steps with all in that was read. A bad row ends them by `BadRows` when all before it is in, unless `skip_bad` or `rejects`
-        (see `load`), and a file that is cut short or rewritten by `FeedFault`. Where a commit is refused or not answered the
-        error says which rows aren't in; they are pending still, and the next step goes on. `Uncommitted`: operations are pending.
-        """
+        A file is followed beyond its end, unless `until_end`; a pipe ends when its writers do, and `Following.stop` ends the
+        steps with everything in that was read. A bad row ends them by `BadRows` when all before it is in, unless `skip_bad` or
+        `rejects` (see `load`); a file that is cut short or rewritten ends them by `FeedFault`. If a commit is refused or not
+        answered, the error says which rows aren't in; they stay pending, and the next step tries them again. `Uncommitted`:
+        operations are pending."""
         from .feeds.following import follow
         return follow(self, feed, by=by, every=every, keep=keep, ahead=ahead, batch=batch, until_end=until_end, skip_bad=skip_bad,
                       rejects=rejects, progress=progress, **read_as)
@@ -224,13 +292,17 @@ class Store(Uncopied, Generic[W, T]):
     @classmethod
     def restore(cls, path: Path, *, units: Optional[Units[Any, Any]] = None, blocks: Optional[int] = None,
                 progress: Optional[bool] = None, **options: "Unpack[RestoreOptions]") -> "Store[Any, Any]":
-        """A store with the version that `Session.save` wrote into the file. Every request of it is answered as that version's
-        were; its own versions count from 0. It has the units and names of the store that was saved, and as many blocks, or more
-        where the copy finds no room in them, unless `blocks` says how many. The other options are those of `Store`.
+        """Returns a store with the version that `Session.save` wrote to a file. It answers every request as that version did.
 
-        Raises `SaveFault` where the file is no saved version, or is damaged or cut (a digest finds that, and no forger),
-        `ValueError` where it has other units, and `PoolEmpty`, with the blocks that are `needed`, where so many can't be enough:
-        no store was made then. `progress` shows or hides a bar; without it a terminal has one."""
+        >>> saved = session.save("roads.csv.gz")
+        >>> with Store.restore("roads.csv.gz") as restored:
+        ...     print(restored.stat().edges)
+        4
+
+        Its own versions count from 0. It has the saved store's units and names, and as many blocks, or more if the copy needs
+        them, unless `blocks` is given. The other options are those of `Store`; `progress` shows or hides a bar, as in `load`. No
+        store is made if the file is no saved version, or is damaged or cut (`SaveFault`; a digest finds that, but no forger), if
+        it has other units (`ValueError`), or if `blocks` are too few (`PoolEmpty`, with those `needed`)."""
         from .saving import restore
         given = Units() if units is None else units
 
@@ -244,10 +316,17 @@ class Store(Uncopied, Generic[W, T]):
     @classmethod
     def at(cls, path: Path, *, version: Optional[int] = None, time: "Optional[When]" = None,
            units: Optional[Units[Any, Any]] = None, seats: int = records.USUAL_SEATS) -> "Store[Any, Any]":
-        """What a store's file held as of a version, or of a time (a date, or microseconds since 1970): the last version that was
-        written by then. It is only read (`ReadOnly`), also while another process writes the file. `units` may say how weights are
-        shown. `ValueError` says that the file has no such version, or not any more, and `JournalFault` that it isn't as it was
-        written."""
+        """Returns what a store's file held at a version or a time, as a store that is only read.
+
+        >>> with Store("roads.db") as kept:
+        ...     loaded = kept.load([("kassel", "fulda"), ("fulda", "hanau")], by="set", batch=1)
+        >>> with Store.at("roads.db", version=1) as earlier:
+        ...     print(earlier.stat().edges)
+        1
+
+        Give one of `version` and `time`, a date or microseconds since 1970: the last version that was written by then. Another
+        process may write the file meanwhile. `units` may say how weights are shown. `ReadOnly` refuses operations; `ValueError`
+        says that the file has no such version, or no longer, and `JournalFault` that it isn't as it was written."""
         store = cls.__new__(cls)
         store._begin_with(open_at(path, version, time, seats), Units() if units is None else units)
         return store
@@ -255,11 +334,19 @@ class Store(Uncopied, Generic[W, T]):
     # Requests.
 
     def stat(self) -> Stat:
-        """The last version's number, names and edges, and the blocks."""
+        """Returns the last version's number, vertices and edges, and how many blocks are free, retired and used.
+
+        >>> store.stat()
+        Stat(version=1, vertices=4, edges=4, free=65532, retired=0, used=4)
+        """
         return self._asked("stat", self._engine.stat)
 
     def collect(self) -> Collected:
-        """Frees each replaced block that no open session's version has."""
+        """Frees each replaced block that no open session's version has.
+
+        >>> store.collect()
+        Collected(floor=1, recycled=0, retired=0)
+        """
         return self._asked("collect", self._engine.collect)
 
     def _asked(self, told: str, call: Callable[[], R]) -> R:
@@ -269,9 +356,14 @@ class Store(Uncopied, Generic[W, T]):
             raise self._ledger.terms.denied(fault, told) from None
 
     def open(self) -> Session[W, T]:
-        """A session that holds the last version. One that nobody has any more, as where an interrupt came before it was given, is
-        closed by the next `open`, `commit` or `collect`. Raises `NoSeat` where as many sessions are open as the store has
-        `seats`."""
+        """Returns a session that holds the last version. Raises `NoSeat` if all `seats` hold sessions.
+
+        A session that nobody refers to any more is closed by the next `open`, `commit` or `collect`.
+
+        >>> with store.open() as held:
+        ...     print(held.version)
+        1
+        """
         return self._open()
 
     def _open(self, slot: Optional[int] = None) -> Session[W, T]:
@@ -289,22 +381,24 @@ class Store(Uncopied, Generic[W, T]):
             raise self._ledger.terms.denied(fault, f"open({slot})") from None
 
     def compact(self, session: Optional[Session[Any, Any]] = None) -> Compacted:
-        """Begins the store again with a version's edges alone.
+        """Starts the store over with a version's edges alone, and returns what these are.
 
-        Without a session these are the last version's. Versions count on, what is pending stays so, and open sessions hold their
-        versions. A store does this of itself before it is full of batches, or of blocks that only sessions need. An endless store
-        also drops, where a batch would leave too many, the names and kinds that have no edge; a request for one then raises
+        >>> done = store.compact()
+        >>> done.edges, done.used
+        (4, 4)
+
+        Without a session the version is the last one. Versions count on, pending operations stay, and open sessions hold their
+        versions. A store does this by itself before it is full of batches, or of blocks that only sessions need. An endless store
+        also drops, if a batch would leave too many, the names and kinds without an edge; a request for one of these then raises
         `NoVertex` or `NoKind`.
 
-        With a session of this store they are those of its version, which is version 0 from then on. What was applied before is
-        dropped, with its memory, and batches are counted from there. All sessions are closed, and what is pending stays pending.
-        Both stores are there while it works, and so there has to be memory for twice the blocks. `PoolEmpty` says that a copy of
-        an older version finds too few blocks; nothing is changed then. Where an interrupt broke the call off, the same one finds
-        what it did, and does it no second time.
+        With a session of this store its version becomes version 0, from which batches count. What was applied before is dropped,
+        with its memory, and all sessions are closed; pending operations stay. There has to be memory for both graphs meanwhile.
+        `PoolEmpty` says that a copy of an older version finds too few blocks; nothing is changed then. After an interrupt the
+        same call finds what was done, and does it no second time.
 
-        The store of a server raises `StoreError`: the server does this by itself. What a store's file has is made smaller by
-        `store.file.compact`.
-        """
+        A server's store raises `StoreError`, since the server does this by itself. `store.file.compact` makes a store's file
+        smaller."""
         if session is None:
             self._ledger.settle()
             return self._engine.renew()
@@ -330,14 +424,25 @@ class Store(Uncopied, Generic[W, T]):
 
     @property
     def file(self) -> StoreFile:
-        """The file of a store that has one: `compact`, `last_sequence`, `recovered`. Else raises `StoreError`."""
+        """The file of a store that has one, with `compact`, `last_sequence` and `recovered`. Raises `StoreError` if it has none.
+
+        >>> with Store("roads.db") as kept:
+        ...     print(kept.file.last_sequence("sensor"))
+        None
+        """
         self._ledger.settle()
         return StoreFile(self._engine)
 
     # The end.
 
     def close(self) -> None:
-        """Closes the sessions and ends the store. Raises `Uncommitted` where operations are pending, which are lost."""
+        """Closes the sessions and ends the store. Raises `Uncommitted` if operations are pending, which are lost; the error has
+        them.
+
+        >>> store.close()
+        >>> session.is_open
+        False
+        """
         fault, told = self._end()
         None in told
         if fault is not None:
@@ -361,7 +466,11 @@ class Store(Uncopied, Generic[W, T]):
 
     @property
     def is_closed(self) -> bool:
-        """Whether the store was closed or killed."""
+        """Whether the store was closed.
+
+        >>> store.is_closed
+        False
+        """
         return self._is_closed
 
     def _kill(self) -> None:

@@ -43,7 +43,8 @@ class OfLimits(unittest.TestCase):
         self.assertEqual(Limits().over(8_388_606, 1), [])
         self.assertEqual(Limits().over(4_194_304, 2), ["4,194,304 vertices, where the store takes 4,194,303 beside 2 kinds"])
         self.assertEqual(Limits().over(1, 65), ["65 kinds, where the store takes 64"])
-        self.assertEqual(Limits(10, 2).over(11, 3), ["11 vertices, where the store takes 10", "3 kinds, where the store takes 2"])
+        self.assertEqual(Limits(10, 2).over(11, 3),
+                         ["11 vertices, where the store takes 10", "3 kinds, where the store takes 2"])
         self.assertEqual(Limits(vertices=1_000_000).over(9, 9), ["9 kinds, where the store takes 8"])
         light, most = Limits(weight=1 << 39), Limits(weight=1)
         self.assertEqual((light.over(16_777_214, 1), light.over(8_388_607, 2), most.over(67_108_863, 64)), ([], [], []))

@@ -120,8 +120,13 @@ class Feed(NamedTuple):
 
 @dataclass(frozen=True)
 class Columns:
-    """Which columns a table's edges are in: a name, or a number from 1. Where a column is `None`, `default_kind`, a weight of 1
-    and a time of `default_time` stand for it."""
+    """The columns of a table in which edges are: each by its name, or by its number from 1.
+
+    >>> table = {"from": ["bonn"], "to": ["kassel"], "km": [230]}
+    >>> store.load(table, by="set", columns=Columns("from", "to", weight="km")).commit.inserted
+    1
+
+    If a column is `None`, `default_kind`, a weight of 1 and `default_time` stand for it."""
 
     source: Column = "source"
     target: Column = "target"

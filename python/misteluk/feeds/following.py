@@ -50,12 +50,15 @@ def _nothing() -> None:
 
 
 class Following(Iterator[Followed]):
-    """A feed that is followed: each step is a commit. See `Store.follow`, which makes it.
+    """The steps of a feed that is followed: an iterator that `Store.follow` returns, and whose steps are commits (`Followed`).
 
-    What is read and sent happens in a thread of its own, so that an interrupt loses no row and sends none twice: the next step
-    goes on behind it. (A step that another thread than the main one takes is never interrupted, and made there.) `stop` may be
-    called by any thread and a signal's handler: what was read goes in, and the steps end.
-    """
+    >>> count = session.to_csv("roads.csv")
+    >>> columns = Columns(kind="kind", weight="weight", time="recent")
+    >>> following = store.follow("roads.csv", by="set", columns=columns)
+
+    Close it, or use it in a `with`. A thread of its own reads and commits, so that an interrupt loses no row and applies none
+    twice: the next step goes on from there. A step that another thread than the main one takes can't be interrupted, and is made
+    there."""
 
     def __init__(self, store: "Store[Any, Any]", incoming: Incoming, count: Count, recipe: Recipe,
                  progress: Optional[bool], rejects: Optional[Keeps] = None) -> None:
@@ -137,7 +140,11 @@ class Following(Iterator[Followed]):
 
     @property
     def last_bad(self) -> Optional[Rejected]:
-        """The last row that was skipped."""
+        """The last row that was skipped, as a `Rejected`, or `None`.
+
+        >>> print(following.last_bad)
+        None
+        """
         return self._count.last_bad
 
     @property
@@ -171,7 +178,13 @@ class Following(Iterator[Followed]):
         return self._source.cord
 
     def stop(self) -> None:
-        """Has what was read go in, and then ends the steps."""
+        """Ends the steps once everything that was read is in. Any thread may call it, and a signal's handler.
+
+        >>> for step in following:
+        ...     following.stop()
+        >>> step.rows
+        4
+        """
         self._is_stopped = True
         self._source.ring()
 
@@ -180,7 +193,12 @@ class Following(Iterator[Followed]):
         self._source.end()
 
     def close(self) -> None:
-        """Gives the file back. Rows that were read and aren't in yet stay pending in the store."""
+        """Closes the file. Rows that were read and aren't in stay pending in the store.
+
+        >>> following.close()
+        >>> list(following)
+        []
+        """
         self._is_done = True
         self._source.close()
         self._progress.end()

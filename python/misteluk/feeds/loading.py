@@ -26,8 +26,14 @@ if TYPE_CHECKING:
 
 @dataclass(frozen=True, repr=False)
 class Loaded:
-    """What a load did: the sum of its batches' receipts, what was counted before, how many records were sent, and how many
-    seconds it took: in all, and without the reading and counting."""
+    """What a load did: `commit` has the sum of its batches' counts (`None` if there was no batch), and `survey` what was counted
+    before.
+
+    >>> loaded.commit.inserted, loaded.survey.vertices
+    (4, 4)
+
+    `records` is how many records a script would have for it, `seconds` how long it took, and `sending` how long without reading
+    and checking."""
 
     commit: Optional[Commit]
     survey: Survey
@@ -37,12 +43,20 @@ class Loaded:
 
     @property
     def bad(self) -> int:
-        """How many rows were skipped."""
+        """The number of rows that were skipped.
+
+        >>> loaded.bad
+        0
+        """
         return self.survey.bad
 
     @property
     def last_bad(self) -> Optional[Rejected]:
-        """The last of them, with its line, the reason and its text."""
+        """The last row that was skipped, as a `Rejected`, or `None`.
+
+        >>> store.load([("bonn", "kassel", "far")], by="set", skip_bad=True).last_bad.text
+        'bonn,kassel,link,far,0'
+        """
         return self.survey.last_bad
 
     def __str__(self) -> str:

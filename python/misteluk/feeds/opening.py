@@ -20,20 +20,21 @@ FORMATS = ("delimited", "snap", "matrix")
 class ReadAs:
     """How a feed is read:
 
-    `format` is "delimited", "snap" or "matrix"; without it a file's name says: .mtx a matrix, .csv and .tsv and others delimited,
-    and .txt an edge list where it begins with #. `columns` are those of a delimited file, of a frame or of rows, or a graph's
-    attributes of edges (see `misteluk.Columns`). `delimiter` is else the comma, tab, semicolon or bar of which a file's first
-    line has most; a file has a `header` if columns are named, unless that is given. `third` says what an edge list's third field
-    is, "weight" or "time". With `both_ways=False` an edge of an undirected graph is one in one direction alone.
-
-    `encoding` is a file's, by Python's name. `decimal` is "." where a file has amounts as 12.50 or 1,234.50; then 1,234 alone is
-    a bad amount, since it may be either. It is "," for 12,50 or 1.234,50, and then 1.234 is the bad one. No form is guessed.
-    `dates` is "dd.mm.yyyy", "dd/mm/yyyy" or "mm/dd/yyyy" where times are such dates, which a time of day may follow; it is
-    "seconds", "milliseconds" or "microseconds" where they are numbers of them since 1970. They are read as with `times="iso"`.
-
-    `names="escape"` writes names with escapes, %20 for a space. `units` (see `misteluk.Units`) are those of a store that has none
-    yet, and must be those of one that has; without them the feed is in the store's. Their `rounding` is for this feed alone.
-    """
+    - `columns`: the columns of a delimited file, of a frame or of rows, or a graph's attributes of edges (`misteluk.Columns`).
+    - `format`: "delimited", "snap" (an edge list) or "matrix" (Matrix Market). Without it the file's name decides: .mtx is a
+      matrix, .txt an edge list if it begins with #, and anything else delimited.
+    - `delimiter`: what separates fields. Without it that of comma, tab, semicolon and bar of which the first line has most.
+    - `header`: whether the first line names the columns. Without it a file has a header if `columns` have names.
+    - `third`: whether the third field of an edge list is the "weight" or the "time".
+    - `both_ways`: whether an edge of an undirected graph makes an edge in each direction, or one alone.
+    - `encoding`: the file's encoding, by Python's name.
+    - `decimal`: "." if a file has amounts as 12.50 or 1,234.50; then 1,234 alone is a bad amount, since it may be either. "," for
+      12,50 or 1.234,50; then 1.234 is the bad one. No form is guessed.
+    - `dates`: "dd.mm.yyyy", "dd/mm/yyyy" or "mm/dd/yyyy" if times are such dates, which a time of day may follow; "seconds",
+      "milliseconds" or "microseconds" if they are numbers of these since 1970. They are read as with `Units(times="iso")`.
+    - `names`: "escape" writes names with escapes, %20 for a space.
+    - `units`: the units of a store that has none yet (`misteluk.Units`); those of another store must be the same. Without it the
+      feed is in the store's. Their `rounding` is for this feed alone."""
 
     columns: Columns = Columns()
     format: Optional[str] = None

@@ -20,7 +20,11 @@ MOST_TEXT = 200
 
 @dataclass(frozen=True)
 class Rejected:
-    """A row that was skipped: its line, why it can't be taken, and its text, cut where it is long."""
+    """A row that was skipped: its line, why it is bad, and its text, of which the first 200 characters are kept.
+
+    >>> store.load([("bonn", "kassel", 230), ("bonn", "", 98)], by="set", skip_bad=True).last_bad.line
+    2
+    """
 
     line: int
     reason: str

@@ -13,8 +13,15 @@ from ..values.answers import Commit
 
 @dataclass(frozen=True)
 class Followed:
-    """What a commit of a feed did, and how far it is: the rows that are in, the bad ones that were skipped, the last line whose
-    row is in, the newest time of all rows, in the store's units, the last bad row, and how many bytes of a file aren't read."""
+    """A commit of a feed that is followed, and how far the feed is in after it.
+
+    >>> step = next(following)
+    >>> step.commit.version, step.rows, step.line, step.newest
+    (2, 4, 5, 4)
+
+    `rows` counts the rows that are in, and `bad` those that were skipped, of which `last_bad` is the last. `line` is the line of
+    the last row, `newest` the newest time of all rows, in the store's units, and `behind` how many bytes of a file aren't read
+    yet."""
 
     commit: Commit
     rows: int

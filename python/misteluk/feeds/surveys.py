@@ -37,8 +37,14 @@ def _now() -> int:
 
 @dataclass(frozen=True, repr=False)
 class Survey:
-    """What a feed holds: checked, counted, and ready to be sent. Its edges and their blocks are counted once somebody asks. It
-    `joins` where nobody said how large batches are: a load in this process may then make larger ones of several."""
+    """What a feed has, read whole, checked and counted; `Store.load` loads it. Edges and blocks are counted when somebody asks.
+
+    >>> found = survey(roads, by="set")
+    >>> found.rows, found.vertices, found.kinds, found.bad
+    (4, 4, ['road', 'rail'], 0)
+
+    `bad` is how many rows are bad, `faults` has the first ten faults and the first of each rule, `fault_counts` how many rows
+    break each rule, and `last_bad` the last such row. `seconds` is how long the reading took."""
 
     feed: str
     by: str
@@ -60,12 +66,20 @@ class Survey:
 
     @property
     def edges(self) -> int:
-        """How many edges the feed has, each counted once."""
+        """The number of edges, each counted once.
+
+        >>> found.edges
+        4
+        """
         return self._counted.edges
 
     @property
     def blocks(self) -> int:
-        """How many blocks these edges take in an empty store."""
+        """The number of blocks that these edges take in an empty store.
+
+        >>> found.blocks
+        4
+        """
         return self._counted.blocks
 
     def records(self, collect: bool = True, batches: Optional[int] = None) -> int:
@@ -74,7 +88,12 @@ class Survey:
 
     @property
     def needed(self) -> int:
-        """How many blocks a store needs that is empty and has no session open."""
+        """The number of blocks that an empty store without sessions needs to load it: a batch asks for as many as it has
+        operations.
+
+        >>> found.needed
+        4
+        """
         return self.needed_beside(0)
 
     def needed_beside(self, used: int) -> int:
@@ -98,7 +117,11 @@ class Survey:
 
     @property
     def times(self) -> Tuple[Any, Any]:
-        """The first and the last time, in the units that the feed was counted in."""
+        """The first and the last time, in the units of the feed.
+
+        >>> found.times
+        (1, 4)
+        """
         times = self.parts.whole.columns.times or [0]
         return self.terms.units.time_to_user(min(times)), self.terms.units.time_to_user(max(times))
 
@@ -107,7 +130,11 @@ class Survey:
         return min(max(records.USUAL_BLOCKS, self.needed), records.MOST_BLOCKS)
 
     def counts(self) -> Dict[str, int]:
-        """All that was counted, by its name."""
+        """Returns everything that was counted, by name.
+
+        >>> found.counts()["edges"]
+        4
+        """
         return {"rows": self.rows, "vertices": self.vertices, "kinds": len(self.kinds), "edges": self.edges,
                 "blocks": self.blocks, "needed": self.needed, "records": self.records(), "bad": self.bad}
 
@@ -284,10 +311,13 @@ def must_be_way(by: str, batch: int) -> None:
 @reads
 def survey(data: Any, *, by: str, batch: Optional[int] = None, progress: Optional[bool] = None,
            terms: Optional[Terms] = None, rejects: Optional[Path] = None, **read_as: Any) -> Survey:
-    """Reads a feed whole, counts and checks it: what it holds, how many blocks it needs, which rows are bad. Nothing is applied.
-    `batch`, `rejects`: see `load`.
-    The further options are those of `ReadAs`; a store that is loaded with it takes its units. `terms` are those of a store that
-    is to take it, and stand for its units."""
+    """Reads a feed whole, checks and counts it, and applies nothing: returns a `Survey`.
+
+    `data`, `by`, `batch`, `rejects` and `progress` are those of `Store.load`.
+
+    >>> survey([("bonn", "kassel", 230), ("bonn", "", 98)], by="set").faults[0].field
+    'target'
+    """
     how, size = ReadAs.of(read_as), records.MOST_OPERATIONS if batch is None else batch
     must_be_way(by, size)
     feed = turned(how.feed(data), names=how.names)

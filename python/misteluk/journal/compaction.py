@@ -27,8 +27,9 @@ class Ended(StoreError):
 
 @dataclass(frozen=True)
 class FileCompacted:
-    """What a compaction did: the version that it made a base of, how many bytes that has, the oldest version that can be had
-    now, and how many batches left the file."""
+    """What a compaction did: which version it made a base of and in how many bytes, and what is left and dropped.
+
+    `oldest` is the oldest version that the file has now, and `dropped` how many batches left it."""
 
     version: int
     bytes: int

@@ -13,8 +13,13 @@ from ..errors import StoreError
 
 @dataclass(frozen=True)
 class Recovered:
-    """How an opening found what the file holds: the version; the base that it began with, 0 where it began with the first batch;
-    and how many batches with how many operations came after that."""
+    """What an opening found in a file: the version, the base that it began with, and what came after that.
+
+    >>> with Store("roads.db") as kept:
+    ...     kept.file.recovered
+    Recovered(version=0, base=0, batches=0, operations=0)
+
+    `base` is 0 if it began with the first batch; `batches` with `operations` came after it."""
 
     version: int
     base: int
@@ -24,8 +29,16 @@ class Recovered:
 
 @dataclass(frozen=True)
 class Kept:
-    """What a file has: the oldest version that can be had and the last one, how many bytes it has, what the last compaction
-    beside the feed did, and why one couldn't be made, as where the disk is full: it is tried again later."""
+    """What a file has: the oldest version that it still has and the last one, and how many bytes it takes.
+
+    >>> with Store("roads.db") as kept:
+    ...     kept.insert("road", "kassel", "fulda", 105)
+    ...     done = kept.commit()
+    ...     kept.file.kept.newest
+    1
+
+    `compacted` is what the last compaction made next to commits did, and `fault` why one failed, as on a full disk; it is tried
+    again."""
 
     oldest: int
     newest: int
@@ -35,7 +48,14 @@ class Kept:
 
 
 class StoreFile:
-    """The file of a store (`Store.file`). Raises `StoreError` where the store has none."""
+    """The file of a store (`Store.file`).
+
+    >>> kept = Store("roads.db")
+    >>> done = kept.load(roads, by="set")
+    >>> kept.file.kept.newest
+    1
+
+    Without a file `Store.file` raises `StoreError`."""
 
     def __init__(self, engine: Engine) -> None:
         if not isinstance(engine, Journaled):
@@ -44,30 +64,50 @@ class StoreFile:
 
     @property
     def path(self) -> str:
+        """The file's path, absolute and without links.
+
+        >>> kept.file.path.endswith("roads.db")
+        True
+        """
         return self._engine.place
 
     @property
     def recovered(self) -> Recovered:
+        """What the opening found in the file.
+
+        >>> kept.file.recovered.version
+        0
+        """
         return Recovered(*self._engine.recovered)
 
     @property
     def kept(self) -> Kept:
-        """What the file has now, and what its last compaction did."""
+        """What the file has now, and what its last compaction did.
+
+        >>> kept.file.kept.bytes > 0
+        True
+        """
         beside = self._engine.beside
         return Kept(self._engine.oldest, self._engine.state.version, self._engine.size, beside.last, beside.fault)
 
     def compact(self, history: History = None) -> FileCompacted:
-        """Writes the last version as a base, with which the next opening begins. Then what is older than the history leaves the
-        file: so many last versions (an int), or those of so long ago (a `timedelta`), are kept for `Store.at`; without a history
-        all are. Other threads commit and ask meanwhile. An interrupt, or `NotWritten` where the disk is full, leaves what was
-        there. (A store does so by itself, with the history that it was opened with.)
+        """Writes the last version as a base, with which the next opening begins, and drops what is older than `history`.
 
-            store.file.compact(history=timedelta(days=30))
-        """
+        >>> kept.file.compact().version
+        1
+
+        `history` says what `Store.at` can still read: how many last versions, or of how long ago (a `timedelta`); without it
+        everything. Other threads commit and ask meanwhile. An interrupt, or `NotWritten` on a full disk, leaves what was there. A
+        store does this by itself too, with the history that it was opened with."""
         return self._engine.compact(checked(history))
 
     def last_sequence(self, producer: str) -> Optional[int]:
-        """The number of a producer's last batch (see `Store.commit`), over restarts too; `None` where it has sent none."""
+        """Returns the number of a producer's last batch (see `Store.commit`), also after a restart; `None` if it has sent none.
+
+        >>> done = kept.commit(producer="sensor", sequence=7)
+        >>> kept.file.last_sequence("sensor")
+        7
+        """
         return self._engine.last_sequence(producer)
 
     @staticmethod

@@ -23,8 +23,13 @@ FRAME_HEIGHT = 820
 
 
 class View:
-    """A page that shows a neighborhood. A notebook shows it, `html` is its text, and `save` writes it. `neighborhood` has what
-    the versions said, and `counts` how many edges are gone, new, changed and the same."""
+    """An HTML page with the neighborhood of a vertex, made by `view`; a notebook shows it, and `html` is its text.
+
+    >>> page = view(session, around="kassel")
+    >>> page
+    <View of kassel, 2 hops, version 1: 4 vertices; 4 edges>
+
+    `neighborhood` has what the versions answered."""
 
     def __init__(self, neighborhood: Neighborhood, title: Optional[str] = None) -> None:
         self.neighborhood = neighborhood
@@ -32,11 +37,18 @@ class View:
 
     @property
     def counts(self) -> Dict[str, int]:
-        """How many edges are gone, new, changed and the same, by these words."""
+        """The number of edges that are gone, new, changed and kept, by these words.
+
+        >>> page.counts["kept"]
+        4
+        """
         return self.neighborhood.counts()
 
     def save(self, path: Path) -> None:
-        """Writes the page to a file, as a whole or not at all."""
+        """Writes the page to a file, whole or not at all.
+
+        >>> page.save("kassel.html")
+        """
         with whole_text(path) as file:
             file.write(self.html)
 
@@ -61,19 +73,22 @@ class View:
 def view(session: "Session[Any, Any]", around: str, hops: int = 2, beside: "Optional[Session[Any, Any]]" = None, *,
          kind: Optional[str] = None, since: Moment = 0, until: Moment = records.MOST_TIME, most: int = USUAL_DRAWN,
          title: Optional[str] = None, labels: Optional[Tuple[str, str]] = None) -> View:
-    """A page of the vertices within `hops` edges of `around`, direction ignored, and of the edges among them, in the version that
-    the session holds; and with `beside` in that session's version too, so that edges gone and edges new are seen.
+    """Returns a page with the vertices within `hops` edges of a vertex, direction ignored, and with the edges among them.
 
-    Of two sessions of one store the one with the earlier version stands before the other, whichever is named first; of two
-    stores, which must have the same units, the first. `kind`, `since` and `until` say which edges count, as in a request.
-    At most `most` vertices (300 at most) are drawn: the nearest, of these in turn one with an edge gone, with a new one, with one
-    that changed and without, and the heaviest of each; and at most 1,000 edges among them, those that aren't kept first, then
-    the nearest and of these the heaviest. The tables have 1,000 vertices and 2,000 edges at most, of the edges among the
-    farthest vertices 20,000 are shown, and a search through hubs stops at 20,000 edges; the page says where there are more.
-    `title` stands above it, and `labels` are what the versions of `session` and `beside` are called.
+    >>> view(session, around="bonn", hops=1)
+    <View of bonn, 1 hop, version 1: 2 vertices; 1 edge>
 
-    Every edge shown was asked of its version: that takes a record for each. Raises `NoVertex` where no version has the vertex.
-    """
+    With `beside`, another session, it shows which edges are gone and which are new. The earlier version of one store comes first;
+    of two stores, whose units must be the same, `session` does. `kind`, `since` and `until` choose the edges, as in a request of
+    `Session`. `title` is the page's, and `labels` are the names of the two versions there.
+
+    `hops` is 1 to 16. At most `most` vertices, 1 to 300, are drawn: the nearest, and among these in turn one with an edge gone,
+    with a new one, with a changed one and with none of them, of each the heaviest. At most 1,000 edges are drawn: first those
+    that aren't kept, then the nearest, and of these the heaviest. The tables have at most 1,000 vertices and 2,000 edges, and
+    among the farthest vertices 20,000 edges are shown. A search through hubs stops at 20,000 edges. The page says where there are
+    more.
+
+    Each edge shown was asked of its version. Raises `NoVertex` if no version has the vertex."""
     within("hops", hops, 1, MOST_HOPS)
     within("most", most, 1, MOST_DRAWN)
     sessions = [session] if beside is None else [session, beside]

@@ -14,12 +14,14 @@ R = TypeVar("R")
 
 
 class AsyncSession(Generic[W, T]):
-    """A session whose calls are awaited: all those of `Session`, with the same arguments. `session` is the one that they are of,
-    and `ask` makes a call of anything in a thread, as `await session.ask(call, session)`.
+    """A session whose calls are awaited: those of `Session`, with the same arguments, each made in a thread.
 
-        async with await misteluk.AsyncSession.connect("http://127.0.0.1:7700") as session:
-            levels, edge = await asyncio.gather(session.levels("ana"), session.edge("transfer", "ana", "bob"))
-    """
+    >>> import asyncio
+    >>> awaited = AsyncSession(session)
+    >>> asyncio.run(awaited.path("kassel", "bonn"))
+    ['kassel', 'hanau', 'bonn']
+
+    `session` is the session that answers, and `version` the number of its version. An `async with` closes it at the end."""
 
     def __init__(self, session: "Session[W, T]") -> None:
         self.session, self.version = session, session.version
@@ -27,8 +29,16 @@ class AsyncSession(Generic[W, T]):
 
     @classmethod
     async def connect(cls, url: str, *, version: Optional[int] = None, **options: Any) -> "AsyncSession[Any, Any]":
-        """A session of a server's last version, or that of this number, where somebody holds it. The connection ends with it.
-        `url` and the options are those of `misteluk.connect`."""
+        """Returns a session of a server's last version, or of one with this number that another session holds.
+
+        `url` and the options are those of `misteluk.connect`. The connection ends with the session.
+
+        >>> async def count() -> int:
+        ...     async with await AsyncSession.connect("http://127.0.0.1:7700") as session:
+        ...         return len(await session.edges())
+        >>> asyncio.run(count())
+        4
+        """
         return await asyncio.to_thread(cls._connected, url, version, options)
 
     @classmethod
@@ -43,7 +53,11 @@ class AsyncSession(Generic[W, T]):
         return found
 
     async def ask(self, call: Callable[..., R], *given: Any, **named: Any) -> R:
-        """What a call gives that is made in a thread. An `AsyncSession` among what it is given stands for its session."""
+        """Returns what any call gives, made in a thread. An `AsyncSession` among its arguments stands for its `session`.
+
+        >>> asyncio.run(awaited.ask(view, awaited, "bonn", hops=1))
+        <View of bonn, 1 hop, version 1: 2 vertices; 1 edge>
+        """
         return await asyncio.to_thread(call, *(it.session if isinstance(it, AsyncSession) else it for it in given), **named)
 
     def __getattr__(self, name: str) -> Any:

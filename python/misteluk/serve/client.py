@@ -302,11 +302,14 @@ class ServedEngine:
 
 
 class ServedStore(Store[W, T]):
-    """A store that a server has, which `connect` gives: sessions of its versions, and a feed for it.
+    """A store of a server, which `connect` returns: sessions of its versions, and a feed for it.
 
-    One client feeds a store at a time: the first commit takes the seat, and raises `Busy` where another one has it; `close` gives
-    it back. Sessions are dropped where they ask nothing for as long as the server says (`--idle`), unless they are kept alive.
-    """
+    >>> served = connect("http://127.0.0.1:7700")
+    >>> served.stat().edges
+    4
+
+    One client feeds a server's store at a time: its first commit takes that seat, and `close` gives it back; the others' commits
+    raise `Busy`. A server drops a session that asks nothing for as long as its `--idle` says, unless it is kept alive."""
 
     def __init__(self, engine: ServedEngine, units: Optional[Units[Any, Any]]) -> None:
         self._is_closed = True
@@ -317,18 +320,27 @@ class ServedStore(Store[W, T]):
         self._ledger.terms.names = engine.names
 
     def open(self, version: Optional[int] = None) -> Session[W, T]:
-        """A session that holds the last version, or that of this number, where somebody holds it."""
+        """Returns a session that holds the last version, or a version with this number that another session still holds.
+
+        >>> with served.open() as first, served.open(first.version) as second:
+        ...     second.version
+        1
+        """
         self._ledger.settle()
         engine: Any = self._engine
         return Session(self, engine.hold(None, version))
 
     def discard(self) -> int:
-        """Lets the pending operations go, and returns how many they were.
+        """Drops the pending operations and returns how many there were.
 
-        Where a batch's answer is missing, it asks the server first: what is in isn't pending any more, and the next commit counts
-        it; what isn't in is dropped with the others. Where that can't be known, it raises as `commit` does, and drops nothing:
-        `NoServer` or `NoAnswer` as long as the server doesn't answer, and `SessionClosed` once, where another server does.
-        Nobody knows then whether the batch is in, and the next `discard` drops it with the others."""
+        If the answer to a batch is missing, it asks the server first: operations that are in aren't pending any more, and the
+        next commit counts them. If the server doesn't answer (`NoServer`, `NoAnswer`) nothing is dropped. If another server
+        answers, it raises `SessionClosed` once, since nobody knows then whether the batch is in; the next `discard` drops it too.
+
+        >>> served.add("road", "bonn", "kassel", 230)
+        >>> served.discard()
+        1
+        """
         try:
             if not self.is_closed:
                 self._ledger.settle()
@@ -360,18 +372,18 @@ def connect(url: str, *, units: None = None, token: Optional[str] = None, timeou
 
 def connect(url: str, *, units: Optional[Units[Any, Any]] = None, token: Optional[str] = None, timeout: float = 60.0,
             keep_alive: bool = False) -> ServedStore[Any, Any]:
-    """The store that a server has (`misteluk serve`). It is a `Store`: it takes operations and feeds, and its sessions answer all
-    that those of a store in this process answer.
+    """Returns the store of a server (`misteluk serve`), whose sessions answer as those of a store in this process do.
 
-        with misteluk.connect("http://127.0.0.1:7700") as store, store.open() as session:
-            print(session.version, session.levels("ana"))
+    >>> with connect("http://127.0.0.1:7700") as served, served.open() as session:
+    ...     session.path("kassel", "bonn")
+    ['kassel', 'hanau', 'bonn']
 
-    `url` is `http://HOST:PORT`, with a path where a proxy has the server under one, or `unix:PATH`. `units` say how weights are
-    shown and rounded (see `Units`); weights and times are in the server's. `token` is the server's, else that of the variable
-    MISTELUK_TOKEN. `timeout`: for how many seconds the server may be silent. With `keep_alive` a thread tells the server in time
-    that sessions are needed still, until they are closed or forgotten.
+    `url` is `http://HOST:PORT`, with a path if a proxy has the server there, or `unix:PATH`. `units` say how weights are shown
+    and rounded (`Units`); what they count is the server's. `token` is the server's, or without it that of the variable
+    MISTELUK_TOKEN. `timeout` is for how many seconds the server may be silent. With `keep_alive` a thread keeps sessions from
+    being dropped until they are closed or nobody refers to them.
 
-    Raises `NoServer` where none answers, `NotAllowed` where it doesn't let this client in, and `ValueError` for other units."""
+    Raises `NoServer` if none answers, `NotAllowed` if it refuses this client, and `ValueError` for other units."""
     engine = ServedEngine(Talk(url, token, timeout), keep_alive)
     try:
         return ServedStore(engine, units)

@@ -27,9 +27,15 @@ ROWS_SHOWN = 10
 
 @dataclass(frozen=True)
 class Commit:
-    """What batches did: the last version's number; how many operations inserted an edge, updated one, removed one, found none
-    to remove, and changed nothing since a weight would have left its limits; how many batches they were cut into; and how many
-    edges expired."""
+    """What a commit did: the last version's number, and counts of operations, batches and expired edges.
+
+    An operation `inserted` an edge, `updated` or `removed` one, was `absent` if it found none to remove, or `overflowed` and
+    changed nothing, since a weight would have left its limits. `batches` is how many batches they went in.
+
+    >>> store.insert("road", "bonn", "kassel", 230, time=5)
+    >>> store.commit()
+    Commit(version=2, inserted=1, updated=0, removed=0, absent=0, overflowed=0, batches=1, expired=0)
+    """
 
     version: int
     inserted: int
@@ -55,7 +61,11 @@ def sum_of(receipts: Sequence[Commit]) -> Commit:
 
 @dataclass(frozen=True)
 class Collected:
-    """What a collection did: the floor, how many blocks it freed, and how many stay retired."""
+    """What a collection did: the oldest version that is held, how many blocks it freed, and how many wait until sessions close.
+
+    >>> store.collect().recycled
+    0
+    """
 
     floor: int
     recycled: int
@@ -64,7 +74,12 @@ class Collected:
 
 @dataclass(frozen=True)
 class Stat:
-    """The last version's number, its vertices and edges; and how many blocks are free, retired and used."""
+    """The last version's number, vertices and edges, and how many blocks are free, retired (kept for sessions) and used.
+
+    >>> stat = store.stat()
+    >>> stat.free + stat.retired + stat.used == store.blocks
+    True
+    """
 
     version: int
     vertices: int
@@ -80,8 +95,11 @@ class Stat:
 
 @dataclass(frozen=True)
 class Compacted:
-    """What a store began again with: its version's number, its vertices and edges, how many blocks these use, and for how many
-    seconds the store did nothing else."""
+    """What a store started over with: a version's number, vertices and edges, their blocks, and the seconds that it took.
+
+    >>> store.compact().used
+    4
+    """
 
     version: int
     vertices: int
@@ -96,8 +114,11 @@ class Compacted:
 
 @dataclass(frozen=True)
 class Degree(Generic[W]):
-    """How many edges go out of a vertex and how many come in, and the sum of the weights of those that go out: a whole number, or
-    a decimal one in a store that has a `weight_scale`."""
+    """A vertex's edges: how many go out, how many come in, and the sum of the weights that go out, in the store's units.
+
+    >>> session.degrees()["hanau"]
+    Degree(out=1, into=2, weight_out=180)
+    """
 
     out: int
     into: int
@@ -113,18 +134,32 @@ if TYPE_CHECKING:
         recent: T
 else:
     class Edge(NamedTuple):
-        """An edge's weight, the time of the operation that added it, and that of the last one that touched it. These are whole
-        numbers; in a store that has units the weight is a decimal number, and a time a `datetime` in UTC. It may be unpacked:
-        `weight, first, recent = edge`. For a type checker it is an `Edge[W, T]`, of weights that are W and times that are T."""
+        """An edge's weight, the time of the operation that added it (`first`), and of the last operation on it (`recent`).
+
+        They are whole numbers, or what the store's `Units` make of them: the weight a `Decimal` or a float, a time a `datetime`
+        in UTC. Type checkers know an `Edge[W, T]`, of weights W and times T.
+
+        >>> weight, first, recent = session.edge("rail", "kassel", "hanau")
+        >>> weight, first, recent
+        (210, 4, 4)
+        """
 
         weight: Any
         first: Any
         recent: Any
 
+    Edge.weight.__doc__ = "The weight, in the store's units."
+    Edge.first.__doc__ = "The time of the operation that added the edge."
+    Edge.recent.__doc__ = "The time of the last operation on the edge."
+
 
 @dataclass(frozen=True)
 class Neighbor(Generic[W, T]):
-    """A vertex's edge to a neighbor, and its edge from it; `None` where there is none."""
+    """A vertex's edge to a neighbor (`out`), and the edge from it (`into`); `None` if there is none.
+
+    >>> session.neighbors("bonn")["hanau"].into.weight
+    180
+    """
 
     out: "Optional[Edge[W, T]]"
     into: "Optional[Edge[W, T]]"
@@ -153,13 +188,14 @@ class Values(NamedTuple):
 
 
 class Answer(Mapping[str, V], Generic[V]):
-    """A table by name, as a version has it: a mapping from each name to its value, in the version's order.
+    """A table of a version by name: a mapping from each name to its value, in the version's order, which nobody can change.
 
-    It has its columns as arrays, and makes a dict of them when somebody asks by name or goes through it. `names` are the rows'
-    names, and `numpy()`, `frame()` and `top(n)` go by columns. It equals a dict of the same rows, and can't be changed: `dict()`,
-    `numpy()` and `frame()` are copies. `version` is the number of the version that was asked, `request` what was asked, and
-    `value` what its values are called.
-    """
+    >>> levels = session.levels("kassel", kind="road")
+    >>> levels["bonn"], len(levels)
+    (3, 4)
+
+    It equals a dict of the same rows, and makes one only if somebody asks by name. `names` are the names of the rows, `version`
+    the number of the version, `request` what was asked, and `value` what the values are called."""
 
     def __init__(self, *given: Any, version: int = 0, request: str = "", value: str = "value", **named: Any) -> None:
         self.version, self.request, self.value = version, request, value
@@ -176,7 +212,11 @@ class Answer(Mapping[str, V], Generic[V]):
         return answer
 
     def dict(self) -> "Dict[str, V]":
-        """The rows as a dict of your own."""
+        """Returns the rows as a dict of your own.
+
+        >>> levels.dict()
+        {'kassel': 0, 'fulda': 1, 'hanau': 2, 'bonn': 3}
+        """
         return self._made().copy()
 
     def _made(self) -> "Dict[str, V]":
@@ -210,15 +250,27 @@ class Answer(Mapping[str, V], Generic[V]):
         return name in self._made()
 
     def keys(self) -> KeysView[str]:
-        """The names, in the order of the rows."""
+        """Returns the names in the order of the rows.
+
+        >>> list(levels.keys())
+        ['kassel', 'fulda', 'hanau', 'bonn']
+        """
         return self._made().keys()
 
     def values(self) -> ValuesView[V]:
-        """The values, in the order of the rows."""
+        """Returns the values in the order of the rows.
+
+        >>> sum(levels.values())
+        6
+        """
         return self._made().values()
 
     def items(self) -> ItemsView[str, V]:
-        """Each name with its value, in the order of the rows."""
+        """Returns each name with its value, in the order of the rows.
+
+        >>> [name for name, level in levels.items() if level > 1]
+        ['hanau', 'bonn']
+        """
         return self._made().items()
 
     def __eq__(self, other: object) -> bool:
@@ -239,15 +291,24 @@ class Answer(Mapping[str, V], Generic[V]):
         return type(self).of, (self.names, told, self.version, self.request, self.value)
 
     def numpy(self) -> "Dict[str, numpy.ndarray[Any, Any]]":
-        """The columns as numpy arrays of your own, each value in the place of its name in `names`: whole numbers, weights in the
-        parts that the store counts; labels are names."""
+        """Returns the columns as numpy arrays of your own, with each value in the place of its name in `names`.
+
+        Numbers are whole, and weights in the parts that the store counts; labels are names.
+
+        >>> levels.numpy()["level"].tolist()  # needs numpy
+        [0, 1, 2, 3]
+        """
         numpy = needed("numpy", "an array")
         if not self.columns:
             return {self.value: numpy.array(list(self.values()))}
         return {name: numpy.array(it.all_told() if self.value == "label" else it.values) for name, it in self.columns.items()}
 
     def frame(self) -> "pandas.DataFrame":
-        """The table as a pandas frame, by name."""
+        """Returns the table as a pandas frame, whose index has the names.
+
+        >>> levels.frame()["level"].to_dict()["bonn"]  # needs pandas
+        3
+        """
         pandas = needed("pandas", "a frame")
         index = pandas.Index(list(self.names), name="name", dtype=object)
         if not self.columns:
@@ -271,9 +332,15 @@ class Answer(Mapping[str, V], Generic[V]):
         return rows_as_html(["name", *self._fields()], rows, told)
 
     def top(self, count: int = 10, by: Optional[str] = None) -> "List[Tuple[str, V]]":
-        """The rows with the greatest values, greatest first; equal ones in the order of the table. `by` says by which column of
-        degrees: "out" (which they are by where none is said), "into" (or "incoming") or "weight"; other tables have one column
-        alone."""
+        """Returns the `count` rows with the greatest values, greatest first; equal ones in the order of the table.
+
+        `by` is a column of degrees: "out" (as without it), "into" or "weight"; other tables have one column.
+
+        >>> levels.top(1)
+        [('bonn', 3)]
+        >>> session.degrees().top(1, by="into")
+        [('hanau', Degree(out=1, into=2, weight_out=180))]
+        """
         names = self._fields()
         field = BY_COLUMN.get(by or "out", by) if len(names) > 1 or by else names[0]
         if self.names and field not in names:
@@ -285,14 +352,29 @@ class Answer(Mapping[str, V], Generic[V]):
 
 
 class Components(Answer[str]):
-    """A table of components: to each vertex the label of its own, by which one vertex stands for it."""
+    """A table with each vertex's component, given by the label that its vertices share, which is the name of one of them.
+
+    >>> components = session.components("rail")
+    >>> components["hanau"], components["bonn"]
+    ('kassel', 'bonn')
+    """
 
     def sizes(self) -> Dict[str, int]:
-        """How many vertices each component has, by its label, in the order of the table."""
+        """Returns how many vertices each component has, by its label, in the order of the table.
+
+        >>> components.sizes()
+        {'kassel': 2, 'fulda': 1, 'bonn': 1}
+        """
         return dict(Counter(self.values()))
 
     def top(self, count: int = 10, by: Optional[str] = None) -> "List[Tuple[str, Any]]":
-        """The largest components: their labels and how many vertices they have, the largest first. `by` is for degrees."""
+        """Returns the `count` largest components, largest first: their labels and how many vertices they have.
+
+        `by` is for degrees, and raises `ValueError` here.
+
+        >>> components.top(1)
+        [('kassel', 2)]
+        """
         if by is not None:
             raise ValueError(f"by is for degrees: components are told by their sizes, and not by {by!r}")
         return Counter(self.values()).most_common(count)

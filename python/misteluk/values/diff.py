@@ -20,7 +20,13 @@ KIND_BITS, NAME_BITS = 7, 27
 
 @dataclass(frozen=True)
 class Changed(Generic[W, T]):
-    """An edge that has another weight or time: as it was, and as it is."""
+    """An edge with another weight or time than before, as it was (`before`) and as it is (`after`).
+
+    >>> store.add("rail", "kassel", "hanau", 40, time=5)
+    >>> done = store.commit()
+    >>> session.diff(store.open()).changed[0].after
+    Edge(weight=250, first=4, recent=5)
+    """
 
     kind: str
     source: str
@@ -39,8 +45,16 @@ class Places(NamedTuple):
 
 
 class Diff(Generic[W, T]):
-    """What became of the edges from one version to another: those that are `gone` and those that are `new`, as `Edges`, and those
-    that `changed`, as `Edges` of the earlier version (`before`) and of the later one (`after`), in the same order."""
+    """What became of the edges from one version to another: as `Edges` those `gone`, those `new`, and those that changed.
+
+    >>> store.add("rail", "kassel", "hanau", 40, time=5)
+    >>> done = store.commit()
+    >>> diff = session.diff(store.open())
+    >>> len(diff.gone), len(diff.new), diff.before[0][3].weight, diff.after[0][3].weight
+    (0, 0, 210, 250)
+
+    `before` has the changed edges as they were, and `after` the same ones as they are, in the same order. A `Diff` is true if
+    there is any difference."""
 
     def __init__(self, earlier: Edges[W, T], later: Edges[W, T]) -> None:
         numpy = numpy_for(len(earlier) + len(later), A_FEW)
@@ -50,17 +64,30 @@ class Diff(Generic[W, T]):
 
     @property
     def changed(self) -> "List[Changed[W, T]]":
-        """The edges that have another weight or time."""
+        """The changed edges as a list of `Changed`.
+
+        >>> diff.changed[0].before.weight
+        210
+        """
         return [Changed(kind, source, target, before, after)
                 for (kind, source, target, before), after in zip(self.before, self.after._marks())]
 
     def counts(self) -> Dict[str, int]:
-        """How many edges are gone, new and changed."""
+        """Returns how many edges are gone, new and changed.
+
+        >>> diff.counts()
+        {'gone': 0, 'new': 0, 'changed': 1}
+        """
         return {"gone": len(self.gone), "new": len(self.new), "changed": len(self.after)}
 
     def frame(self) -> "pandas.DataFrame":
-        """All of them as a pandas frame: what became of an edge (gone, new or changed), its kind, source and target, and its
-        weight and times before and after, empty where it wasn't there."""
+        """Returns all of them as a pandas frame, with what became of each edge in the column `state` (gone, new or changed).
+
+        The other columns are kind, source and target, and weight and times before and after, empty where the edge wasn't there.
+
+        >>> diff.frame()["weight_after"].tolist()  # needs pandas
+        [250]
+        """
         numpy, pandas = needed("numpy", "a frame"), needed("pandas", "a frame")
         counts, ends = list(self.counts().values()), (self.gone, self.new, self.before)
         found: Dict[str, Any] = {"state": numpy.array([*self.counts()], dtype=object).repeat(counts)}

@@ -31,21 +31,17 @@ else:
     Told = Tuple[str, str, str, Any]
 
 
-def _column(at: int) -> "cached_property[ReadOnlyArray]":
-    """A column of edges by its place, made when it is asked for: most edges of a vertex are gone through without."""
-    return cached_property(lambda edges: ReadOnlyArray(edges._columns[at]))
-
-
 class Edges(Sequence["Told[W, T]"], Generic[W, T]):
-    """Edges as columns of one length, and a sequence of (kind, source, target, `Edge`).
+    """Edges as columns of one length, and as a sequence of (kind, source, target, `Edge`).
 
-    `kind`, `source` and `target` are arrays of numbers, whose names `kinds` and `names` have: the layout of Arrow's dictionaries.
-    `weight`, `first` and `recent` are whole numbers: parts, of which one has `units.weight_scale`, and microseconds since 1970
-    where times are dates. The numbers of names are those of the version, and stay the same from version to version of a store
-    that doesn't begin anew. Nobody can change an array, which may be the session's own: a frame is yours, and so is a copy.
-    """
+    >>> edges = session.edges(kind="road")
+    >>> len(edges), edges.kinds, edges.names
+    (3, ('road', 'rail'), ('kassel', 'fulda', 'hanau', 'bonn'))
 
-    kind, source, target, weight, first, recent = map(_column, range(6))
+    `kind`, `source` and `target` have numbers, which are places in `kinds` and `names`, as in Arrow's dictionary arrays. Names
+    keep their numbers from version to version, unless the store starts over. `weight`, `first` and `recent` have whole numbers:
+    weights in the parts that the store counts (`units.weight_scale` make 1), dates in microseconds since 1970. Nobody can change
+    the arrays, which may be the session's own; a frame is a copy."""
 
     def __init__(self, kinds: Sequence[str], names: Sequence[str], units: Units[W, T], columns: "Sequence[array[int]]") -> None:
         self.kinds, self.names, self.units, self._columns = kinds, names, units, columns
@@ -53,9 +49,69 @@ class Edges(Sequence["Told[W, T]"], Generic[W, T]):
     def __reduce__(self) -> Any:
         return Edges, (self.kinds, self.names, self.units, [it[:] for it in self._columns])
 
+    # Columns, each made when somebody asks for it: most edges of a vertex are gone through without.
+
+    @cached_property
+    def kind(self) -> ReadOnlyArray:
+        """The kind of each edge: its place in `kinds`.
+
+        >>> list(edges.kind)
+        [0, 0, 0]
+        """
+        return ReadOnlyArray(self._columns[0])
+
+    @cached_property
+    def source(self) -> ReadOnlyArray:
+        """The source of each edge: its place in `names`.
+
+        >>> list(edges.source)
+        [0, 1, 2]
+        """
+        return ReadOnlyArray(self._columns[1])
+
+    @cached_property
+    def target(self) -> ReadOnlyArray:
+        """The target of each edge: its place in `names`.
+
+        >>> list(edges.target)
+        [1, 2, 3]
+        """
+        return ReadOnlyArray(self._columns[2])
+
+    @cached_property
+    def weight(self) -> ReadOnlyArray:
+        """The weight of each edge, in the parts that the store counts.
+
+        >>> max(edges.weight)
+        180
+        """
+        return ReadOnlyArray(self._columns[3])
+
+    @cached_property
+    def first(self) -> ReadOnlyArray:
+        """The time of the operation that added each edge: a whole number, of a date microseconds since 1970.
+
+        >>> list(edges.first)
+        [1, 2, 3]
+        """
+        return ReadOnlyArray(self._columns[4])
+
+    @cached_property
+    def recent(self) -> ReadOnlyArray:
+        """The time of the last operation on each edge, as `first`.
+
+        >>> list(edges.recent)
+        [1, 2, 3]
+        """
+        return ReadOnlyArray(self._columns[5])
+
     @property
     def columns(self) -> Dict[str, ReadOnlyArray]:
-        """The arrays by name."""
+        """The six arrays by name: kind, source, target, weight, first and recent.
+
+        >>> list(edges.columns["weight"])
+        [105, 98, 180]
+        """
         return {it: getattr(self, it) for it in HEADER}
 
     def __len__(self) -> int:
@@ -83,16 +139,22 @@ class Edges(Sequence["Told[W, T]"], Generic[W, T]):
         return map(Edge, *self._told())
 
     def where(self, mask: Sequence[Any]) -> "Edges[W, T]":
-        """The edges where the mask, an array or a sequence of as many truths, is true.
+        """Returns the edges for which `mask` is true: an array or sequence with a truth for each. `ValueError`: it has another
+        length.
 
-            edges.where(edges.numpy()["weight"] > 100)
+        >>> len(edges.where([weight > 100 for weight in edges.weight]))
+        2
         """
         if len(mask) != len(self):
             raise ValueError(f"a mask has a truth for each of {len(self)} edges, and this has {len(mask)}")
         return self.take([at for at, it in enumerate(mask) if it])
 
     def take(self, places: Sequence[int]) -> "Edges[W, T]":
-        """The edges in these places."""
+        """Returns the edges in these places, which count from 0.
+
+        >>> edges.take([2])[0]
+        ('road', 'hanau', 'bonn', Edge(weight=180, first=3, recent=3))
+        """
         numpy = numpy_for(len(places), A_FEW)
         if numpy is None:
             columns = [array(it.typecode, map(it.__getitem__, places)) for it in self._columns]
@@ -106,14 +168,22 @@ class Edges(Sequence["Told[W, T]"], Generic[W, T]):
                 self.units.all_times_to_user(self.recent)]
 
     def numpy(self) -> "Dict[str, numpy.ndarray[Any, Any]]":
-        """The columns as numpy arrays, which share their memory with these, and so are read-only: to change one take its
-        `.copy()`."""
+        """Returns the columns as numpy arrays, which are read-only views of these: to change one, take its `.copy()`.
+
+        >>> int(edges.numpy()["weight"].sum())  # needs numpy
+        383
+        """
         numpy = needed("numpy", "an array")
         return {name: numpy.asarray(it) for name, it in self.columns.items()}
 
     def frame(self) -> "pandas.DataFrame":
-        """The edges as a pandas frame of your own: kind, source, target, weight, first, recent. Decimal weights are objects,
-        which pandas can't sum as numbers, unless the store has `decimals="float"`."""
+        """Returns the edges as a pandas frame of your own, with the columns kind, source, target, weight, first and recent.
+
+        Decimal weights are objects, which pandas can't sum as numbers, unless the store has `decimals="float"`.
+
+        >>> edges.frame()["target"].tolist()  # needs pandas
+        ['fulda', 'hanau', 'bonn']
+        """
         numpy, pandas = needed("numpy", "a frame"), needed("pandas", "a frame")
         found = {name: self._named(name) for name in HEADER[:3]}
         for name in Edge._fields:
@@ -152,8 +222,11 @@ class Edges(Sequence["Told[W, T]"], Generic[W, T]):
             return list(told) if is_there is None else [it if there else None for it, there in zip(told, is_there.tolist())]
 
     def to_networkx(self, **about: Any) -> "networkx.MultiDiGraph":
-        """The edges as a networkx graph, with every name as a node, in order. An edge's key is its kind; it has the attributes
-        `kind`, `weight`, `first` and `recent`. The graph has what is said about it."""
+        """Returns the edges as a networkx graph, as `Session.to_networkx` does. `about` are attributes of the graph.
+
+        >>> edges.to_networkx(year=2024).graph["year"]  # needs networkx
+        2024
+        """
         networkx = needed("networkx", "a graph")
         graph = networkx.MultiDiGraph(**about)
         graph.add_nodes_from(self.names)
@@ -162,8 +235,11 @@ class Edges(Sequence["Told[W, T]"], Generic[W, T]):
         return graph
 
     def to_igraph(self, **about: Any) -> "igraph.Graph":
-        """The edges as a directed igraph graph, whose vertices have the numbers here, and the names as `name`. Edges have `kind`,
-        `weight`, `first` and `recent`. The graph has what is said about it."""
+        """Returns the edges as a directed igraph graph, as `Session.to_igraph` does. `about` are attributes of the graph.
+
+        >>> edges.to_igraph(year=2024).vs["name"]  # needs igraph
+        ['kassel', 'fulda', 'hanau', 'bonn']
+        """
         igraph = needed("igraph", "a graph")
         graph = igraph.Graph(len(self.names), list(zip(self.source, self.target)), directed=True)
         for name, value in about.items():
@@ -175,15 +251,22 @@ class Edges(Sequence["Told[W, T]"], Generic[W, T]):
         return graph
 
     def to_scipy(self) -> "scipy.sparse.csr_matrix":
-        """The weights, in parts, as a sparse matrix: row and column are the numbers of source and target. Of several kinds the
-        weights are summed."""
+        """Returns the weights as a sparse matrix, as `Session.to_scipy` does.
+
+        >>> int(edges.to_scipy().sum())  # needs scipy
+        383
+        """
         numpy, sparse = needed("numpy", "a sparse matrix"), needed("scipy.sparse", "a sparse matrix")
         ends = numpy.asarray(self.source).astype("int64"), numpy.asarray(self.target).astype("int64")
         size = len(self.names)
         return sparse.csr_matrix((numpy.asarray(self.weight).astype("int64"), ends), shape=(size, size))
 
     def to_csv(self, path: Path) -> int:
-        """Writes the edges as CSV in UTF-8 with a header, and gives how many they are. See `Session.to_csv`."""
+        """Writes the edges as CSV, as `Session.to_csv` does, and returns how many there are.
+
+        >>> edges.to_csv("roads.csv")
+        3
+        """
         kinds, names = fields_of_csv(self.kinds), fields_of_csv(self.names)
         with whole_text(path) as file:
             file.write(",".join(HEADER) + "\n")
@@ -195,7 +278,11 @@ class Edges(Sequence["Told[W, T]"], Generic[W, T]):
         return len(self)
 
     def top(self, count: int = 10, by: Literal["weight", "first", "recent"] = "weight") -> "List[Told[W, T]]":
-        """The edges with the greatest values, greatest first: by "weight", "first" or "recent"."""
+        """Returns the `count` edges with the greatest "weight", "first" or "recent" (`by`), greatest first.
+
+        >>> edges.top(1)
+        [('road', 'hanau', 'bonn', Edge(weight=180, first=3, recent=3))]
+        """
         if by not in Edge._fields:
             raise ValueError(f"by is 'weight', 'first' or 'recent' for edges, and not {by!r}")
         places = heapq.nlargest(count, range(len(self)), key=self._columns[HEADER.index(by)].__getitem__)

@@ -12,18 +12,20 @@ MOST_WEIGHT = 1 << 40
 
 @dataclass(frozen=True, repr=False)
 class Limits:
-    """How much a store in this process takes at most: vertices and kinds, those of removed edges too, and batches until it begins
-    anew. What isn't said is as large as the library has room for: 8,388,606 vertices for one kind, half as many for two, 131,071
-    for 64; and 4,294,967,295 batches. With fewer batches it keeps each operation until it begins anew.
+    """How much a store in this process takes at most. Without it, that is as much as the library has room for.
 
-    `weight` is how large a weight may be, 2^40 where it isn't said, in parts where the store has a `weight_scale`. With smaller
-    ones there may be more vertices, up to 67,108,863. An operation whose weight or amount is past it, or the sum that it would
-    leave, is counted as `overflowed`: it makes its names known and changes nothing else.
+    >>> Limits(vertices=100_000, kinds=4)
+    Limits(vertices=100000, kinds=4)
+    >>> with Store(limits=Limits(vertices=2)) as small:
+    ...     small.load(roads, by="set")
+    Traceback (most recent call last):
+    misteluk.errors.OverLimit: rows has 4 vertices, where the store takes 2. ...
 
-        Store(limits=Limits(vertices=100_000, kinds=4))
-        Store(limits=Limits(vertices=20_000_000, kinds=4, weight=1_000_000))
-
-    """
+    `vertices` and `kinds` include those whose edges are all removed: at most 8,388,606 vertices for one kind, half as many for
+    two, 131,071 for 64. `batches` is how many a store takes until it starts over, at most 4,294,967,295; with fewer it keeps each
+    operation until then. `weight` is the greatest weight, at most 2^40, in parts if the store has a `weight_scale`; with a
+    smaller one there may be more vertices, up to 67,108,863. An operation with a greater weight, or whose sum would be greater,
+    counts as `overflowed`: it makes its names known and changes nothing else. Other limits raise `ValueError`."""
 
     vertices: Optional[int] = None
     kinds: Optional[int] = None

@@ -50,21 +50,23 @@ def _places_of(scale: int) -> Optional[int]:
 
 @dataclass(frozen=True)
 class Units(Generic[W, T]):
-    """What weights and times are counted in; the store, `load`, `connect` and what else has units take the same ones.
+    """What weights and times are counted in; `Store`, `load`, `connect` and what else has units take the same ones.
 
-        Store(units=Units(weight_scale=100, times="iso"))
+    >>> with Store(units=Units(weight_scale=100, times="iso")) as bank:
+    ...     loaded = bank.load([("ana", "bob", "0.10", "2024-03-05", "transfer")], by="add")
+    ...     print(bank.open().edge("transfer", "ana", "bob").recent)
+    2024-03-05 00:00:00+00:00
 
-    `weight_scale`: weights are decimal numbers of so many parts, as 100 for cents; 1 leaves them whole numbers. It divides a
-    power of ten. A weight is an int, a `Decimal`, a float as it is printed, or a text.
-    `times`: "number" for whole numbers, or "iso" for dates from 1970 (also the time of what has none) to 9999. A date is a
-    `datetime`, a `date`, or a text as 2024-05-01 or 2024-05-01T12:00:00.250+02:00, in UTC if it has no zone.
-    `decimals`: answers have weights as "decimal" (`decimal.Decimal`, exact) or "float".
-    `rounding`: "half-even" rounds a weight that is no whole number of parts to the nearest one, or of two that are equally near
-    to the even one. Without it such a weight is refused (`BadWeight`).
+    - `weight_scale`: into how many parts 1 is divided, as 100 for cents; a divisor of a power of ten, up to 2^40. Weights are
+      then `Decimal`s; 1 leaves them whole numbers. A weight is given as an int, a `Decimal`, a float by its `repr`, or a text.
+    - `times`: "number" for whole numbers from 0 to 2^63 - 1, or "iso" for dates from 1970 to 9999: a `datetime`, a `date`, or a
+      text as 2024-05-01 or 2024-05-01T12:00:00.250+02:00, in UTC without a zone. An edge without a time has 1970's first moment.
+    - `decimals`: answers have weights as "decimal" (`decimal.Decimal`, exact) or "float".
+    - `rounding`: "half-even" rounds a weight between two parts to the nearest, and to the even one in the middle. Without it such
+      a weight is refused (`BadWeight`).
 
-    What isn't given is as the store, the file or the server has it; a new store counts whole numbers. Raises `ValueError` for
-    other values.
-    """
+    What isn't given is as the store, the file or the server has it; a new store counts whole numbers. Other values raise
+    `ValueError`."""
 
     weight_scale: Optional[int] = None
     times: "Optional[Times]" = None
