@@ -59,7 +59,7 @@ class Refused(StoreError):
     ('BadName', "source '': a name has at least one byte")
 
     `word` is the error's name, `place` where the operation came from, `fault` the field and the reason, `advice` what to do, and
-    `told` the text without the advice. `applied` has what the batches before a refused one did, or `None`."""
+    `message` the text without the advice. `applied` has what the batches before a refused one did, or `None`."""
 
     word = ""
     advice = ""
@@ -75,8 +75,8 @@ class Refused(StoreError):
         self.advice = self.advice if advice is None else advice
         where = f"{place}: " if place else ""
         reason = text or (str(fault) if fault else "")
-        self.told = f"{where}{self.word}" + (f": {reason}" if reason else "")
-        super().__init__(self.told + (f". {self.advice}" if self.advice else ""))
+        self.message = f"{where}{self.word}" + (f": {reason}" if reason else "")
+        super().__init__(self.message + (f". {self.advice}" if self.advice else ""))
 
     @property
     def field(self) -> Optional[str]:
@@ -278,7 +278,7 @@ class BadRows(StoreError):
                  fault_counts: Optional[Dict[str, int]] = None, stands: str = "none is loaded") -> None:
         self.feed, self.count, self.rows, self.faults = feed, count, rows, list(faults)
         self.fault_counts = dict(fault_counts or {})
-        lines = [it.told for it in self.faults]
+        lines = [it.message for it in self.faults]
         told = len({it.place for it in self.faults})
         lines += [f"and {count - told} more rows" if count - told > 1 else "and 1 more row"] if count > told else []
         if len(self.fault_counts) > 1:

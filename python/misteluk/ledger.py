@@ -76,7 +76,7 @@ class Ledger:
         if self._are_numbers(weight, time):
             return weight, time
         units = self.terms.units
-        return units.weights_of([text_of(weight)])[0], units.times_of([text_of(time)])[0]
+        return units._weights_of([text_of(weight)])[0], units._times_of([text_of(time)])[0]
 
     def _keep(self, code: int, names: Tuple[Any, Any, Any], weight: Any, time: Any) -> None:
         """Keeps an operation, or raises where a rule is broken."""
@@ -123,12 +123,12 @@ class Ledger:
     def terms_for(self, units: Units[Any, Any]) -> Terms:
         """The terms of a feed in these units, and where they aren't given in the store's. Raises `ValueError` where the store has
         others."""
-        said = units.or_those(self.terms.units)
+        said = units._or_those(self.terms.units)
         self.must_agree(said)
         return Terms(self.terms.names, said, self.terms.right)
 
     def must_agree(self, units: Units[Any, Any]) -> None:
-        if self.units_are_set and not units.same_as(self.terms.units):
+        if self.units_are_set and not units._same_as(self.terms.units):
             raise ValueError(f"the store's units are {self.terms.units}, and those of what is to be loaded {units}")
 
     @alone

@@ -100,8 +100,8 @@ class Session(Generic[W, T]):
         fields = ["bfs" if names else "deg", str(self._slot), *names[:1], kind or records.ANY, text_of(since), text_of(until)]
         for fault in terms.faults_of(fields, records.MOST_SEATS):
             raise terms.refusal(fault)
-        begin = int(terms.units.time_to_program(text_of(since)))
-        end = int(terms.units.time_to_program(text_of(until), is_end=True))
+        begin = int(terms.units._time_to_program(text_of(since)))
+        end = int(terms.units._time_to_program(text_of(until), is_end=True))
         if begin > end:
             raise refusal("BadWindow", f"{told}: since {since} is after until {until}")
         of_kind = None if kind in (None, records.ANY) else terms.names.to_program(str(kind), keep=False)
@@ -116,7 +116,7 @@ class Session(Generic[W, T]):
     def _answer(self, value: str, asked: Called, columns: Dict[str, Values],
                 names: Optional[Sequence[str]] = None) -> "Answer[Any]":
         names = self._all_names() if names is None else names
-        found: Answer[Any] = Answer.of(names, columns, self.version, str(asked), value)
+        found: Answer[Any] = Answer._of(names, columns, self.version, str(asked), value)
         return found
 
     def _all_kinds(self) -> Tuple[str, ...]:
@@ -152,7 +152,7 @@ class Session(Generic[W, T]):
         scope, asked = self._scope("components", kind, since, until)
         labels, names = self._asked(self._held.labels, asked, scope), self._all_names()
         columns = {"label": Values(labels, lambda it: list(map(names.__getitem__, it)))}
-        found: Components = Components.of(names, columns, self.version, str(asked), "label")
+        found: Components = Components._of(names, columns, self.version, str(asked), "label")
         return found
 
     def cores(self, kind: Optional[str] = None, since: Moment = 0, until: Moment = LAST) -> Answer[int]:
@@ -174,7 +174,7 @@ class Session(Generic[W, T]):
         """
         scope, asked = self._scope("degrees", kind, since, until)
         found = self._asked(self._held.degrees, asked, scope)
-        return self._answer("degree", asked, degrees(*found, self._terms.units.weights_told))
+        return self._answer("degree", asked, degrees(*found, self._terms.units._weights_told))
 
     def weights_in(self, kind: Optional[str] = None, since: Moment = 0, until: Moment = LAST) -> Answer[W]:
         """Returns the weight that comes into each vertex. An edge in the window counts as in `degrees`.
@@ -184,7 +184,7 @@ class Session(Generic[W, T]):
         """
         scope, asked = self._scope("weights_in", kind, since, until)
         found = self._asked(self._held.edges, asked, scope)
-        weights = Values(found.weights_in(self.vertex_count), self._terms.units.weights_told)
+        weights = Values(found.weights_in(self.vertex_count), self._terms.units._weights_told)
         return self._answer("weight_in", asked, {"weight_in": weights})
 
     # One edge, and all.
@@ -200,7 +200,7 @@ class Session(Generic[W, T]):
             marks = self._held.edge(self._ends(ends))
         except Denied as fault:
             raise self._terms.denied(fault, str(Called("edge", ends))) from None
-        return None if marks is None else self._terms.units.edge_to_user(*marks)
+        return None if marks is None else self._terms.units._edge_to_user(*marks)
 
     def _ends(self, ends: Ends) -> Ends:
         """An edge's ends in the engine's terms. Raises where one of them is no name."""
@@ -239,7 +239,7 @@ class Session(Generic[W, T]):
             if isinstance(it, Denied) and missing is RAISE:
                 raise self._terms.denied(it, str(Called("edge", ends)))
             told = it is None or isinstance(it, Denied)
-            found.append((missing if it else None) if told else self._terms.units.edge_to_user(*it))  # type: ignore[misc]
+            found.append((missing if it else None) if told else self._terms.units._edge_to_user(*it))  # type: ignore[misc]
         return found
 
     def edges(self, kind: Optional[str] = None, since: Moment = 0, until: Moment = LAST) -> "Edges[W, T]":
@@ -298,7 +298,7 @@ class Session(Generic[W, T]):
         >>> session.diff(store.open())
         <Diff: 1 gone, 0 new, 0 changed>
         """
-        if not later._terms.units.shows_as(self._terms.units):
+        if not later._terms.units._shows_as(self._terms.units):
             raise ValueError(f"the sessions' stores have other units: {self._terms.units}, and {later._terms.units}")
         return Diff(*(it._edges_or_none(kind, since, until) for it in (self, later)))
 

@@ -85,7 +85,7 @@ class Store(Uncopied, Generic[W, T]):
                  sync: "Sync" = "full", history: History = None) -> None:
         given = Units() if units is None else units
         if path is None:
-            self._begin(LibraryEngine(blocks, seats, endless, limits or Limits()), given, given.are_given)
+            self._begin(LibraryEngine(blocks, seats, endless, limits or Limits()), given, given._are_given)
         else:
             self._begin_with(open_journal(path, sync=sync, blocks=blocks, seats=seats, endless=endless, limits=limits,
                                           units=given, history=history), given)
@@ -182,7 +182,7 @@ class Store(Uncopied, Generic[W, T]):
         Units(weight_scale=1, times='number', decimals='decimal', rounding=None)
         """
         self._ledger.settle()
-        return self._ledger.terms.units.settled()
+        return self._ledger.terms.units._settled()
 
     def discard(self) -> int:
         """Drops the pending operations and returns how many there were. Those of a batch that was sent stay.
@@ -214,7 +214,7 @@ class Store(Uncopied, Generic[W, T]):
             if producer is None and sequence is None:
                 done = self._ledger.commit(collect, within("batch", batch, 1, records.MOST_OPERATIONS))
             else:
-                done = self._ledger.post(collect, self.file.post(producer, sequence))
+                done = self._ledger.post(collect, self.file._post(producer, sequence))
         except Refused:
             told = noting(self._ledger.taken.append, self._ledger.telling)
             None in told
@@ -307,8 +307,8 @@ class Store(Uncopied, Generic[W, T]):
         given = Units() if units is None else units
 
         def make(found: int, saved: Units[Any, Any]) -> "Store[Any, Any]":
-            both = given.or_those(saved)
-            if saved.are_given and not both.same_as(saved):
+            both = given._or_those(saved)
+            if saved._are_given and not both._same_as(saved):
                 raise ValueError(f"{path} has {saved}, and not {both}")
             return cls(units=both, blocks=found, **options)
         return restore(path, make, blocks, progress)

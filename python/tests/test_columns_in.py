@@ -242,7 +242,7 @@ class Tables(Case):
         for of in (units.Units(100, rounding="half-even"), units.Units(10, rounding="half-even"),
                    units.Units(rounding="half-even"), units.Units(1_000), units.Units(100)):
             column = given.Floats(numpy, numpy.array(values), lambda some, _: list(map(repr, some.tolist())), numpy.array(values))
-            wanted = of.weights_of(list(map(repr, values)))
+            wanted = of._weights_of(list(map(repr, values)))
             for at in range(0, len(values), 4):
                 found = column.weights(slice(at, at + 4), of)
                 count += found is not None

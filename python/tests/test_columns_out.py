@@ -161,9 +161,9 @@ class Written(Case):
     def test_weights_and_times_as_text(self):
         for units in (*UNITS, Units(weight_scale=1 << 40), Units(weight_scale=10 ** 9)):
             weights, times = [0, 1, -1, 7, 100, -250, 1 << 40, -(1 << 40)], [0, 1, 10 ** 6, 1_709_553_600_250_000]
-            self.assertEqual(list(units.weights_as_text(weights)), [str(units.weight_to_user(it)) for it in weights])
-            self.assertEqual(list(units.times_as_text(times)),
-                             [getattr(it, "isoformat", it.__str__)() for it in map(units.time_to_user, times)])
+            self.assertEqual(list(units._weights_as_text(weights)), [str(units._weight_to_user(it)) for it in weights])
+            self.assertEqual(list(units._times_as_text(times)),
+                             [getattr(it, "isoformat", it.__str__)() for it in map(units._time_to_user, times)])
 
 
 class Differences(Case):

@@ -38,7 +38,7 @@ class Refusals(Case):
                  "f.csv:7: PoolEmpty: the batch needs 7 free blocks, and 0 are free", LESS),
                 (errors.PoolEmpty(needed=7, free=None), "PoolEmpty: the batch needs 7 free blocks", LESS),
                 (errors.PoolEmpty(needed=7, free=3, text="no room", advice=""), "PoolEmpty: no room", "")):
-            self.assertEqual((fault.told, fault.advice), (told, advice))
+            self.assertEqual((fault.message, fault.advice), (told, advice))
             self.assertEqual(str(fault), f"{told}. {advice}" if advice else told)
 
     def test_what_it_has(self):

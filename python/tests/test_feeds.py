@@ -103,7 +103,7 @@ class Feeds(Case):
         with mock.patch.dict(os.environ, {"TZ": "EST5EDT"}):
             time.tzset()
             for text in ("1970-01-02", "1970-01-02T00:00:00Z"):
-                self.assertEqual(Units(times="iso").time_to_program(text), "86400000000")
+                self.assertEqual(Units(times="iso")._time_to_program(text), "86400000000")
 
     def fault(self, told: str, name: str, text: str, **options) -> None:
         with self.assertRaises(misteluk.errors.FeedFault) as fault:
@@ -182,7 +182,7 @@ class Loads(Case):
             self.assertEqual((found.needed, found.blocks), (max(needed, default=0), self.blocks_of(right)))
             used = draw.randrange(40)
             beside = [max(self.blocks_of(right[:at * batch]), used) + len(part) for at, part in enumerate(parts)]
-            self.assertEqual(found.needed_beside(used), max(beside, default=0))
+            self.assertEqual(found._needed_beside(used), max(beside, default=0))
             self.assertEqual((found.rows, found.bad), (len(rows), len(rows) - len(right)))
             self.assertEqual(found.times, (7, 7) if right else (0, 0))
 

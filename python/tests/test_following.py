@@ -121,10 +121,10 @@ class Following(Case):
     def test_a_file_s_last_line_is_one_when_it_ends(self):
         path = self.file("half.csv", "a,b,1,1\nb,c,12")
         followed = self.follow(path, every=0.01, columns=Columns(1, 2, weight=3))
-        self.assertEqual((next(followed).rows, followed.half_line), (1, True))
+        self.assertEqual((next(followed).rows, followed._half_line), (1, True))
         with open(path, "a") as file:
             file.write("34\n")
-        self.assertEqual((next(followed).rows, followed.half_line), (2, False))
+        self.assertEqual((next(followed).rows, followed._half_line), (2, False))
         with followed.store.open() as session:
             self.assertEqual(session.edge(KIND, "b", "c").weight, 1234)
         (step,) = self.follow(self.file("end.csv", "a,b,1,1\nb,c,12,3"), until_end=True)
@@ -144,9 +144,9 @@ class Following(Case):
             next(it)
             it.stop()
             rows = [step.rows for step in it][-1:] or [100]
-            self.assertEqual((it.half_line, it.has_unread, rows[0]), (False, True, text[:2_001].count(b"\n")))
+            self.assertEqual((it._half_line, it._has_unread, rows[0]), (False, True, text[:2_001].count(b"\n")))
             it.close()
-            self.assertEqual(it.has_unread, False)
+            self.assertEqual(it._has_unread, False)
         os.close(write)
 
     def test_expiry(self):
@@ -254,7 +254,7 @@ class Following(Case):
         followed = self.follow(self.file("bad.csv", text), until_end=True, skip_bad=True)
         (step,) = followed
         self.assertEqual((step.rows, step.bad, step.line), (3, 2, 5))
-        self.assertEqual([(it.place.line, it.word, it.field) for it in followed.faults],
+        self.assertEqual([(it.place.line, it.word, it.field) for it in followed._faults],
                          [(3, "BadName", "target"), (4, "BadWeight", "amount")])
 
     def test_what_is_refused(self):

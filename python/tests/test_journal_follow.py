@@ -83,8 +83,8 @@ class Seeks(FollowCase):
             self.addCleanup(files.close)
             for count in counts:
                 with files.next() as following:
-                    following.on_left = following.end
-                    while following.place.rows < count:
+                    following.on_left = following._end
+                    while following._place.rows < count:
                         next(following)
                     self.assertEqual(list(following) if count != counts[-1] else [], [])
         self.write(lines(0, 30_000))
@@ -125,7 +125,7 @@ class Seeks(FollowCase):
             file.write(lines(9_000, 9_100))
         with self.opened() as store, self.counted():
             following = self.follow(store, encoding="utf-16")
-            self.assertTrue(following.reads_again)
+            self.assertTrue(following._reads_again)
             list(following)
         self.assertEqual(self.read, os.path.getsize(self.feed))
         self.once(9_100)

@@ -25,37 +25,37 @@ class OfLimits(unittest.TestCase):
         """Vertices times kinds are at most 8,388,606, and kinds at most 64, whatever is said."""
         for wrong in (Limits(vertices=8_388_607), Limits(kinds=65), Limits(vertices=131_072, kinds=64), Limits(kinds=0),
                       Limits(vertices=-1), Limits(batches=1 << 32)):
-            self.assertRaises(ValueError, wrong.checked)
+            self.assertRaises(ValueError, wrong._checked)
         for right in (Limits(), Limits(8_388_606, 1), Limits(131_071, 64), Limits(batches=1)):
-            self.assertEqual(right.checked(), right)
+            self.assertEqual(right._checked(), right)
 
     def test_walls_of_smaller_weights(self):
         """One weight for each vertex of each kind, and one more, are below 2^63."""
         for wrong in (Limits(weight=(1 << 40) + 1), Limits(weight=0), Limits(8_388_607, weight=1 << 40),
                       Limits(67_108_864, weight=1), Limits(67_108_863, weight=1 << 37),
                       Limits(67_108_863, 64, weight=2_147_483_680)):
-            self.assertRaises(ValueError, wrong.checked)
+            self.assertRaises(ValueError, wrong._checked)
         for right in (Limits(weight=1), Limits(8_388_606, weight=1 << 40), Limits(67_108_863, weight=(1 << 37) - 1),
                       Limits(67_108_863, 64, weight=2_147_483_679)):
-            self.assertEqual(right.checked(), right)
+            self.assertEqual(right._checked(), right)
 
     def test_what_is_over(self):
-        self.assertEqual(Limits().over(8_388_606, 1), [])
-        self.assertEqual(Limits().over(4_194_304, 2), ["4,194,304 vertices, where the store takes 4,194,303 beside 2 kinds"])
-        self.assertEqual(Limits().over(1, 65), ["65 kinds, where the store takes 64"])
-        self.assertEqual(Limits(10, 2).over(11, 3),
+        self.assertEqual(Limits()._over(8_388_606, 1), [])
+        self.assertEqual(Limits()._over(4_194_304, 2), ["4,194,304 vertices, where the store takes 4,194,303 beside 2 kinds"])
+        self.assertEqual(Limits()._over(1, 65), ["65 kinds, where the store takes 64"])
+        self.assertEqual(Limits(10, 2)._over(11, 3),
                          ["11 vertices, where the store takes 10", "3 kinds, where the store takes 2"])
-        self.assertEqual(Limits(vertices=1_000_000).over(9, 9), ["9 kinds, where the store takes 8"])
+        self.assertEqual(Limits(vertices=1_000_000)._over(9, 9), ["9 kinds, where the store takes 8"])
         light, most = Limits(weight=1 << 39), Limits(weight=1)
-        self.assertEqual((light.over(16_777_214, 1), light.over(8_388_607, 2), most.over(67_108_863, 64)), ([], [], []))
-        self.assertEqual(light.over(16_777_215, 1), ["16,777,215 vertices, where the store takes 16,777,214 beside 1 kind"])
-        self.assertEqual(most.over(67_108_864, 2), ["67,108,864 vertices, where the store takes 67,108,863 beside 2 kinds"])
+        self.assertEqual((light._over(16_777_214, 1), light._over(8_388_607, 2), most._over(67_108_863, 64)), ([], [], []))
+        self.assertEqual(light._over(16_777_215, 1), ["16,777,215 vertices, where the store takes 16,777,214 beside 1 kind"])
+        self.assertEqual(most._over(67_108_864, 2), ["67,108,864 vertices, where the store takes 67,108,863 beside 2 kinds"])
 
     def test_advice(self):
-        self.assertEqual(Limits(kinds=3).advice, "Make the store with more than Limits(kinds=3)")
+        self.assertEqual(Limits(kinds=3)._advice, "Make the store with more than Limits(kinds=3)")
         smaller = "No store takes more, but vertices beside smaller weights (Limits(weight=..))"
-        self.assertEqual([it.advice for it in (Limits(), Limits(batches=9), Limits(weight=1 << 39))], [smaller] * 3)
-        self.assertEqual(Limits(weight=1).advice, "No store takes more")
+        self.assertEqual([it._advice for it in (Limits(), Limits(batches=9), Limits(weight=1 << 39))], [smaller] * 3)
+        self.assertEqual(Limits(weight=1)._advice, "No store takes more")
 
     def test_shapes(self):
         """A desk's limits have room for what there is, and are within the walls."""
@@ -63,13 +63,13 @@ class OfLimits(unittest.TestCase):
         each = (Limits(), Limits(vertices=1_000), Limits(kinds=3), Limits(500_000, 16), *light)
         sizes = 0, 1, 1_000, 131_071, 131_072, 1_048_575, 1_048_576, 8_388_606, 8_388_607, 16_777_214, 67_108_863
         for said, vertices, kinds in itertools.product(each, sizes, (0, 1, 2, 3, 8, 9, 17, 33, 64)):
-            if not said.over(vertices, kinds):
-                found = said.shape(vertices, kinds)
+            if not said._over(vertices, kinds):
+                found = said._shape(vertices, kinds)
                 self.assertTrue(found.vertices >= vertices and found.kinds >= kinds, (said, vertices, kinds, found))
-                self.assertLessEqual(found.vertices * found.kinds, said.product)
-                self.assertEqual((found.checked(), found.weight), (found, said.weight))
+                self.assertLessEqual(found.vertices * found.kinds, said._product)
+                self.assertEqual((found._checked(), found.weight), (found, said.weight))
         for kinds, room in ((0, 8), (8, 8), (9, 16), (16, 16), (17, 32), (32, 32), (33, 64), (64, 64)):
-            self.assertEqual(Limits().shape(1_000, kinds), Limits(limits.MOST_PRODUCT // room, room, limits.MOST_BATCHES, None))
+            self.assertEqual(Limits()._shape(1_000, kinds), Limits(limits.MOST_PRODUCT // room, room, limits.MOST_BATCHES, None))
 
 
 class Room(Case):
@@ -217,9 +217,9 @@ class Room(Case):
             with self.subTest(vertices=vertices, kinds=kinds, weight=weight):
                 self.assertEqual(engine.library.desk_new_within(1, wanted, 16, desk), code)
                 if code:
-                    self.assertRaises(ValueError, Limits(vertices, kinds, 1, weight).checked)
+                    self.assertRaises(ValueError, Limits(vertices, kinds, 1, weight)._checked)
                 else:
-                    self.assertEqual(row(Limits(vertices, kinds, 1, weight).checked())[:2], (vertices, kinds))
+                    self.assertEqual(row(Limits(vertices, kinds, 1, weight)._checked())[:2], (vertices, kinds))
             engine.library.desk_free(desk)
 
     def test_an_endless_store_lets_names_go_before(self):

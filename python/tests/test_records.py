@@ -71,8 +71,8 @@ class Records(Case):
             for _ in range(300):
                 column = [made.choice(texts) for _ in range(made.randrange(1, 4))]
                 with self.subTest(column, units=units):
-                    self.assertEqual(list(units.weights_of(column)), [units._weight_of(it) for it in column])
-                    self.assertEqual(list(units.times_of(column)), [units._time_of(it) for it in column])
+                    self.assertEqual(list(units._weights_of(column)), [units._weight_of(it) for it in column])
+                    self.assertEqual(list(units._times_of(column)), [units._time_of(it) for it in column])
         dates = ["2024-03-05", "2024-03-05T12:00:00", "2024-03-05 12:00", "2024-03-05T12:00:00.25", "2024-03-05T12:00:00,5", "0",
                  "2024-03-05T12:00:00Z", "2024-03-05T12:00:00+02:00", "1969-12-31", "1970-01-01", "9999-12-31T23:59:59",
                  "20240305", "2024-02-30", "2024-W01-1", " 2024-03-05", "", "x", "2024-03-05T12:00:00.1234567",
@@ -80,8 +80,8 @@ class Records(Case):
         units = Units(times="iso")
         for column in [*([it] for it in dates), *([made.choice(dates) for _ in range(2)] for _ in range(300)), dates[:2]]:
             with self.subTest(column):
-                self.assertEqual(list(units.times_of(column)), [units._time_of(it) for it in column])
-        self.assertEqual(list(units.times_of(["1970-01-02", "1970-01-01T00:00:01"])), [86_400_000_000, 1_000_000])
+                self.assertEqual(list(units._times_of(column)), [units._time_of(it) for it in column])
+        self.assertEqual(list(units._times_of(["1970-01-02", "1970-01-01T00:00:01"])), [86_400_000_000, 1_000_000])
         self.assertEqual(records.whole_numbers(["5", "-7"], "q", 12), array("q", [5, -7]))
         self.assertIsNone(records.whole_numbers(["5", "-7"], "Q", 12))
 

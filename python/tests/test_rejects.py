@@ -165,7 +165,7 @@ class FollowedFeeds(Case):
         step = next(followed)
         self.assertEqual((step.rows, step.bad, step.last_bad.line), (2, 3, 5))
         self.assertEqual((self.room / "r.csv").read_text(), f"{written}g,,1,1,5,{NO_NAME}\n")
-        self.assertIn("3 bad rows passed over", followed.told)
+        self.assertIn("3 bad rows passed over", followed._told)
 
     def test_what_is_left_to_read(self):
         rows = [f"a,b{it},1,1\n" for it in range(9)]

@@ -79,19 +79,19 @@ class Parts(Case):
         for scale, rows in PARTS.items():
             units = Units(scale)
             for parts, text in rows:
-                self.assertEqual(str(units.weight_to_user(parts)), text)
+                self.assertEqual(str(units._weight_to_user(parts)), text)
                 if scale > 1:
-                    self.assertEqual(str(replace(units, decimals="float").weight_to_user(parts)), str(float(text)))
+                    self.assertEqual(str(replace(units, decimals="float")._weight_to_user(parts)), str(float(text)))
             column = [parts for parts, _ in rows]
-            self.assertEqual(list(map(str, units.all_weights_to_user(column))), [text for _, text in rows])
+            self.assertEqual(list(map(str, units._all_weights_to_user(column))), [text for _, text in rows])
 
     def test_to_the_program(self):
         """Alone, and many at once, by the quick way and by the slow one, which one of another form makes all take."""
         for scale, rows in PARTS.items():
             units, texts, column = Units(scale), [text for _, text in rows], [parts for parts, _ in rows]
-            self.assertEqual([int(units.weight_to_program(it)) for it in texts], column)
-            self.assertEqual(list(units.weights_of(texts)), column)
-            self.assertEqual(list(units.weights_of([*texts, "x"])), [*column, None])
+            self.assertEqual([int(units._weight_to_program(it)) for it in texts], column)
+            self.assertEqual(list(units._weights_of(texts)), column)
+            self.assertEqual(list(units._weights_of([*texts, "x"])), [*column, None])
 
     def test_answers(self):
         store = self.store(units=Units(weight_scale=100))
@@ -110,8 +110,8 @@ class Parts(Case):
         for scale, rows in HALVES.items():
             units = Units(scale, rounding="half-even")
             for text, parts in chain(rows, ((f"-{text}", -parts) for text, parts in rows)):
-                self.assertEqual(units.weight_to_program(text), str(parts), (scale, text))
-                self.assertEqual(list(units.weights_of([text, "1"])), [parts, scale], (scale, text))
+                self.assertEqual(units._weight_to_program(text), str(parts), (scale, text))
+                self.assertEqual(list(units._weights_of([text, "1"])), [parts, scale], (scale, text))
 
     def test_rounding_in_each_way(self):
         rows = [*HALVES[100], *((f"-{text}", -parts) for text, parts in HALVES[100])]

@@ -26,9 +26,9 @@ class Weights(Case):
     def test_to_the_program(self):
         for text, parts in (("12.50", "1250"), ("12.5", "1250"), ("1e2", "10000"), (" -0.01 ", "-1"), ("0", "0"), ("-0.00", "0"),
                             ("10995116277.76", "1099511627776"), ("-10995116277.76", "-1099511627776")):
-            self.assertEqual(CENTS.weight_to_program(text), parts)
-        self.assertEqual(Units(8).weight_to_program("0.375"), "3")
-        self.assertEqual(Units().weight_to_program("12.5"), "12.5")
+            self.assertEqual(CENTS._weight_to_program(text), parts)
+        self.assertEqual(Units(8)._weight_to_program("0.375"), "3")
+        self.assertEqual(Units()._weight_to_program("12.5"), "12.5")
 
     def test_what_is_no_whole_number_of_parts(self):
         for text, told in (("12.505", "at most 2 decimals here"), ("x", "a decimal number"), ("", "a decimal number"),
@@ -36,11 +36,11 @@ class Weights(Case):
                            ("10995116277.77", "from -10995116277.76 to 10995116277.76"), ("1e999999999", "a weight is from"),
                            ("1." + "0" * 500, "a decimal number")):
             with self.assertRaisesRegex(ValueError, told):
-                CENTS.weight_to_program(text)
+                CENTS._weight_to_program(text)
         for scale, text, told in ((10, "0.05", "a weight has at most 1 decimal here (weight_scale 10)"),
                                   (8, "0.1", "a weight is a whole number of parts, of which one has 8 (weight_scale)")):
             with self.assertRaises(ValueError) as fault:
-                Units(scale).weight_to_program(text)
+                Units(scale)._weight_to_program(text)
             self.assertEqual(str(fault.exception), told)
 
     def test_rounding(self):
@@ -49,11 +49,11 @@ class Weights(Case):
         for text, parts in (("0.30000000000000004", "30"), ("12.345", "1234"), ("12.355", "1236"), ("12.3450001", "1235"),
                             ("-12.345", "-1234"), ("-12.355", "-1236"), ("0.004", "0"), ("-0.004", "0"), ("1e-30", "0"),
                             ("12.5", "1250"), ("10995116277.76", "1099511627776")):
-            self.assertEqual(half_even.weight_to_program(text), parts, text)
+            self.assertEqual(half_even._weight_to_program(text), parts, text)
         for text in ("10995116277.77", "x", "nan", ""):
-            self.assertRaises(ValueError, half_even.weight_to_program, text)
+            self.assertRaises(ValueError, half_even._weight_to_program, text)
         whole = Units(rounding="half-even")
-        self.assertEqual([whole.weight_to_program(it) for it in ("12", "12.5", "13.5", "-0.5")], ["12", "12", "14", "0"])
+        self.assertEqual([whole._weight_to_program(it) for it in ("12", "12.5", "13.5", "-0.5")], ["12", "12", "14", "0"])
         with self.assertRaisesRegex(ValueError, "rounding is 'half-even' or None, and not 'up'"):
             Store(units=Units(rounding="up"))
 
@@ -87,11 +87,11 @@ class Weights(Case):
     def test_to_the_user(self):
         for scale, parts, text in ((100, 1250, "12.50"), (100, -5, "-0.05"), (8, 3, "0.375"), (1000, 1, "0.001"), (10, 0, "0.0"),
                                    (100, 3 * 10 ** 40, "3" + "0" * 38 + ".00")):
-            told = Units(scale).weight_to_user(parts)
+            told = Units(scale)._weight_to_user(parts)
             self.assertEqual((type(told), str(told)), (Decimal, text))
             self.assertEqual(Fraction(told), Fraction(parts, scale))
-        self.assertEqual(Units(100, decimals="float").weight_to_user(1250), 12.5)
-        self.assertEqual((Units().weight_to_user(7), CENTS.all_weights_to_user([1, 1])), (7, [Decimal("0.01")] * 2))
+        self.assertEqual(Units(100, decimals="float")._weight_to_user(1250), 12.5)
+        self.assertEqual((Units()._weight_to_user(7), CENTS._all_weights_to_user([1, 1])), (7, [Decimal("0.01")] * 2))
 
     def test_no_units(self):
         for wrong in ((0,), (-1,), (3,), (1 << 41,), (1, "days"), (1, "iso", "cents")):
@@ -108,13 +108,13 @@ class Times(Case):
                              ("1970-01-01", 0), ("0", 0), (str(date(2024, 3, 4)), FOURTH), (str(utc(2024, 3, 4, 0, 0, 1)),
                                                                                             FOURTH + 10 ** 6),
                              ("9999-12-31T23:59:59.999999", 253_402_300_800 * 10 ** 6 - 1)):
-            self.assertEqual(CENTS.time_to_program(text), str(micros), text)
-            self.assertEqual(CENTS.time_to_user(micros), utc(1970, 1, 1) + timedelta(microseconds=micros))
+            self.assertEqual(CENTS._time_to_program(text), str(micros), text)
+            self.assertEqual(CENTS._time_to_user(micros), utc(1970, 1, 1) + timedelta(microseconds=micros))
 
     def test_a_window_s_end(self):
-        self.assertEqual(CENTS.time_to_program("2024-03-04", is_end=True), str(FOURTH + DAY - 1))
-        self.assertEqual(CENTS.time_to_program("2024-03-04T00:00", is_end=True), str(FOURTH))
-        self.assertEqual(CENTS.time_to_program(str((1 << 63) - 1), is_end=True), str((1 << 63) - 1))
+        self.assertEqual(CENTS._time_to_program("2024-03-04", is_end=True), str(FOURTH + DAY - 1))
+        self.assertEqual(CENTS._time_to_program("2024-03-04T00:00", is_end=True), str(FOURTH))
+        self.assertEqual(CENTS._time_to_program(str((1 << 63) - 1), is_end=True), str((1 << 63) - 1))
 
     def test_nothing_is_cut_off(self):
         for text, told in (("2024-03-04T00:00:00.0000001", "would be cut off"), ("1969-12-31T23:59:59.999999", "not before 1970"),
@@ -124,10 +124,10 @@ class Times(Case):
                            ("20240304T103000.1234567", "is a date here"), ("2024-03-04T00:00:00+02:00:30.5", "is a date here"),
                            ("2024-02-30", "a time is a date here")):
             with self.assertRaisesRegex(ValueError, told):
-                CENTS.time_to_program(text)
+                CENTS._time_to_program(text)
 
     def test_plain_times_stay(self):
-        self.assertEqual((Units(100).time_to_program("7"), Units(100).time_to_user(7)), ("7", 7))
+        self.assertEqual((Units(100)._time_to_program("7"), Units(100)._time_to_user(7)), ("7", 7))
 
 
 class Stores(Case):

@@ -138,7 +138,7 @@ class Weights(Case):
         for text in ("1_0", "\u0661\u0662", "1e-99999999", "0e-999999999", "1e-401", "1e99999999999999999999", "0x10", "1 0",
                      "Infinity"):
             for units in (Units(100), Units(100, rounding="half-even"), Units(1, rounding="half-even")):
-                self.assertRaisesRegex(ValueError, "a weight is a decimal number", units.weight_to_program, text)
+                self.assertRaisesRegex(ValueError, "a weight is a decimal number", units._weight_to_program, text)
 
 
 class NoValues(Case):

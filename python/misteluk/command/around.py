@@ -53,7 +53,7 @@ def _rows_before(words: argparse.Namespace, found: Survey) -> int:
     lines = found.parts.whole.lines
     if words.at is None:
         return sum(it <= words.at_line for it in lines)
-    last = int(found.terms.units.time_to_program(words.at, is_end=True))
+    last = int(found.terms.units._time_to_program(words.at, is_end=True))
     is_late = [it > last for it in found.parts.whole.columns.times]
     rows = is_late.index(True) if True in is_late else len(is_late)
     if not all(is_late[rows:]):

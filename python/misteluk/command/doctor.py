@@ -32,7 +32,7 @@ def made(path: str) -> str:
 
 def most() -> str:
     """How much a store takes at most."""
-    told = ", ".join(f"{Limits().most_vertices(it):,} with {it}" for it in (2, 8, limits.MOST_KINDS))
+    told = ", ".join(f"{Limits()._most_vertices(it):,} with {it}" for it in (2, 8, limits.MOST_KINDS))
     return (f"{limits.MOST_PRODUCT:,} vertices with 1 kind, {told}, unless Store(limits=..) says others; {limits.MOST_BLOCKS:,} "
             f"blocks; batches of {records.MOST_OPERATIONS:,}")
 

@@ -78,12 +78,12 @@ class Teller:
         output = descriptor_of(sys.stdout)
         while True:
             try:
-                step = self.following.step(output)
+                step = self.following._step(output)
             except StopIteration:
                 return
             finally:
                 self.tell_faults()
-            self.following.clear_progress()
+            self.following._clear_progress()
             self.tell(step)
             if sys.stdout:
                 sys.stdout.flush()
@@ -107,18 +107,18 @@ class Teller:
         """The last part of the feed's time, where one is asked for."""
         if self.within is None:
             return {}
-        newest = int(self.units.time_to_program(str(step.newest)))
-        return {"since": self.units.time_to_user(max(newest - self.within, 0)), "until": step.newest}
+        newest = int(self.units._time_to_program(str(step.newest)))
+        return {"since": self.units._time_to_user(max(newest - self.within, 0)), "until": step.newest}
 
     def write(self, told: Dict[str, Any]) -> None:
         print(json.dumps(told, default=for_json, ensure_ascii=False))
 
     def tell_faults(self) -> None:
         """Tells of bad rows that were passed over since the last time, as they are told of in a load: the first ones."""
-        faults = self.following.faults if self.words.skip_bad else []
+        faults = self.following._faults if self.words.skip_bad else []
         for it in faults[self.faults_told:]:
-            self.following.clear_progress()
-            print(f"misteluk: passed over: {it.told}", file=sys.stderr)
+            self.following._clear_progress()
+            print(f"misteluk: passed over: {it.message}", file=sys.stderr)
         self.faults_told = len(faults)
 
 
@@ -127,7 +127,7 @@ def follow(words: argparse.Namespace, store: Store[Any, Any], how: Dict[str, Any
     with store.follow(words.file, every=words.every, keep=words.keep, ahead=words.ahead, until_end=words.until_end,
                       skip_bad=words.skip_bad, rejects=words.rejects, batch=words.batch, **how) as following:
         try:
-            with ended_by_signals(following.stop, following.cord):
+            with ended_by_signals(following.stop, following._cord):
                 Teller(words, store, following).run()
         except BrokenPipeError:
             leave_output()
@@ -136,8 +136,8 @@ def follow(words: argparse.Namespace, store: Store[Any, Any], how: Dict[str, Any
         except StoreError:
             store.discard()  # (the fault says which rows aren't in)
             raise
-        left = ("; more is there that wasn't read" if following.has_unread else
-                "; the last line isn't whole yet, and not in" if following.half_line else "")
+        left = ("; more is there that wasn't read" if following._has_unread else
+                "; the last line isn't whole yet, and not in" if following._half_line else "")
         following.close()
-        print(f"misteluk: {following.told}{left}", file=sys.stderr)
+        print(f"misteluk: {following._told}{left}", file=sys.stderr)
     return 0

@@ -118,12 +118,12 @@ def tell(words: argparse.Namespace, found: Survey) -> None:
     """Prints what was counted, and writes the script that is asked for."""
     print(found, flush=True)
     if found.bad:
-        print(f"{found.bad} bad rows passed over:", *(it.told for it in found.faults), sep="\n  ")
+        print(f"{found.bad} bad rows passed over:", *(it.message for it in found.faults), sep="\n  ")
     if words.script:
         with open(words.script, "wb") as file:
             for part in found.parts:
                 file.write(part.text + b"commit\ncollect\n")
-        print(f"{found.records()} records written to {words.script}: stinger run --blocks {found.fitting()} < {words.script}")
+        print(f"{found._records()} records written to {words.script}: stinger run --blocks {found._fitting()} < {words.script}")
         if len(found.terms.names):
             print(f"  {len(found.terms.names)} names and kinds stand in it as ids, ~~ and 20 signs")
 

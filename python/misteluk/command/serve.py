@@ -225,7 +225,7 @@ def followed(store: Store[Any, Any], feed: Any, words: argparse.Namespace, how: 
     """A feed that goes on where the store's file has it in to."""
     found = store.follow(feed, progress=False, every=words.every, keep=words.keep, ahead=words.ahead, batch=words.batch,
                          skip_bad=words.skip_bad, rejects=words.rejects, **how)
-    if found.reads_again:
+    if found._reads_again:
         log.state("read again", f"{found.name} is read from its begin, and what is in is passed over: in this encoding no byte "
                   "says where a line begins")
     return found

@@ -50,7 +50,7 @@ class LibraryEngine:
         within("seats", seats, 1, records.MOST_SEATS)
         self.path = find_library(library)
         self.library, self.handles = opened(self.path)
-        self.grows, self.limits, self.seats, self.endless = blocks is None, limits.checked(), seats, endless
+        self.grows, self.limits, self.seats, self.endless = blocks is None, limits._checked(), seats, endless
         self.is_closed = False
         self.guard = self._guard = Guard()
         self._held: "Dict[int, weakref.ref[LibraryVersion]]" = {}
@@ -60,7 +60,7 @@ class LibraryEngine:
         self._freed = c_uint64()
         # (an endless one has few vertices at first, so that it lets those go that have no edge, before it takes many)
         is_plain = limits.vertices is limits.kinds is None
-        self._opening = self._new(0, blocks or FIRST_BLOCKS, limits.shape(0, MOST_KINDS if endless and is_plain else 0))
+        self._opening = self._new(0, blocks or FIRST_BLOCKS, limits._shape(0, MOST_KINDS if endless and is_plain else 0))
 
     def _new(self, version: int, blocks: int, shape: Limits) -> Opening:
         """An opening with an empty desk, of so many versions before."""
@@ -217,11 +217,11 @@ class LibraryEngine:
             content = content.without_idle_names()
         vertices, kinds = flight.batch.known_after(content.names, content.kinds)
         if not self._has_room(shape, vertices, kinds):
-            over = self.limits.over(vertices, kinds)
+            over = self.limits._over(vertices, kinds)
             if over:
                 raise Denied("NamesFull" if vertices > (shape.vertices or 0) else "KindsFull",
-                             advice=f"There would be {'; '.join(over)}. {self.limits.advice}")
-            shape = self.limits.shape(vertices, kinds)
+                             advice=f"There would be {'; '.join(over)}. {self.limits._advice}")
+            shape = self.limits._shape(vertices, kinds)
         if is_short:
             raise Denied("PoolEmpty", stat=stat)
         flight.drops = is_crowded and self.endless
@@ -235,8 +235,8 @@ class LibraryEngine:
     def fit(self, vertices: int, kinds: int, blocks: int) -> None:
         opening = self._settle()
         shape, more = opening.shape, opening.blocks
-        if not (self._has_room(shape, vertices, kinds) or self.limits.over(vertices, kinds)):
-            shape = self.limits.shape(vertices, kinds)
+        if not (self._has_room(shape, vertices, kinds) or self.limits._over(vertices, kinds)):
+            shape = self.limits._shape(vertices, kinds)
         while self.grows and more < min(blocks, MOST_BLOCKS):
             more = min(more * MORE_BLOCKS, MOST_BLOCKS)
         if (shape, more) != (opening.shape, opening.blocks):

@@ -40,14 +40,14 @@ def as_written(fault: records.Fault, decimal: str) -> records.Fault:
 
 def _is_weight(text: str, units: Units[Any, Any]) -> bool:
     try:
-        return records.weight_reason(units.weight_to_program(text)) is None
+        return records.weight_reason(units._weight_to_program(text)) is None
     except ValueError:
         return False
 
 
 def _is_date(text: str) -> bool:
     try:
-        return bool(Units(times=ISO).time_to_program(text))
+        return bool(Units(times=ISO)._time_to_program(text))
     except ValueError:
         return False
 

@@ -55,9 +55,9 @@ class Apart(Iterator[Applied]):
     ends."""
 
     def __init__(self, following: Following) -> None:
-        self.store, self.name, self._terms = following.store, following.name, following.terms
-        self._recipe, self._begin, self._file = following.recipe, following.begin, os.dup(following.descriptor)
-        self._is_input, self._rejects, self._mark = following.descriptor == 0, following.rejects, following.mark
+        self.store, self.name, self._terms = following.store, following.name, following._terms
+        self._recipe, self._begin, self._file = following.recipe, following._begin, os.dup(following._descriptor)
+        self._is_input, self._rejects, self._mark = following._descriptor == 0, following.rejects, following.mark
         self.last_bad: Optional[Rejected] = None
         self.place = following.resumed
         following.close()

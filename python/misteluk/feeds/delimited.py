@@ -40,7 +40,7 @@ def _delimited_blocks(path: Path, columns: Columns, delimiter: Optional[str], he
     with open_text(path, encoding) as opened:
         first = opened.readline()
         sign = delimiter or max(",\t;|", key=first.count)
-        named = any(isinstance(it, str) for it in columns.wanted)
+        named = any(isinstance(it, str) for it in columns._wanted)
         names, line = NO_ROW
         if header or header is None and named:
             names, line = next(_csv_rows(feed, chain([first] if first else [], opened), sign, 0), NO_ROW)
@@ -133,7 +133,7 @@ class Picked:
     """The columns of a table that are wanted."""
 
     def __init__(self, feed: str, columns: Columns, names: Sequence[str], sign: str = "") -> None:
-        source, target, kind, weight, time = (_place(feed, it, names) for it in columns.wanted)
+        source, target, kind, weight, time = (_place(feed, it, names) for it in columns._wanted)
         warn_of_unread(feed, columns, names)
         self.feed = feed
         self.places = (kind, source, target, weight, time)
@@ -167,7 +167,7 @@ class Picked:
 def warn_of_unread(feed: str, columns: Columns, names: Sequence[str]) -> None:
     """Tells of columns that are called as what they may hold, and aren't read since no column was said."""
     unread = [it for it in OPTIONS if it in names]
-    if unread and columns.are_unsaid:
+    if unread and columns._are_unsaid:
         told = ", ".join(f"{it}={it!r}" for it in unread)
         options = " ".join(f"{OPTIONS[it]} {it}" for it in unread)
         warnings.warn(LeftOut(f"{feed}: only the columns source and target are read. Name the others to have them read, too: "

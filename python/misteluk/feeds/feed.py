@@ -137,14 +137,14 @@ class Columns:
     default_time: str = "0"
 
     @property
-    def wanted(self) -> Tuple[Optional[Column], ...]:
+    def _wanted(self) -> Tuple[Optional[Column], ...]:
         """The columns themselves: of the source, the target, the kind, the weight and the time."""
         return self.source, self.target, self.kind, self.weight, self.time
 
     @property
-    def are_unsaid(self) -> bool:
+    def _are_unsaid(self) -> bool:
         """Whether no column was said."""
-        return self.wanted == Columns().wanted
+        return self._wanted == Columns()._wanted
 
 
 def parts_of(items: Iterable[T], size: int) -> Iterator[List[T]]:

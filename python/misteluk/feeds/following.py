@@ -86,55 +86,55 @@ class Following(Iterator[Followed]):
         self._calls = Calls()
 
     @property
-    def descriptor(self) -> int:
+    def _descriptor(self) -> int:
         """The descriptor of what is read."""
         return self._source.descriptor
 
     @property
-    def begin(self) -> Optional[int]:
+    def _begin(self) -> Optional[int]:
         """Where the reading of a file began, in bytes; `None` of what can't be read again."""
         return self._source.begin
 
     @property
-    def place(self) -> FeedPlace:
+    def _place(self) -> FeedPlace:
         """How far it is in."""
         begin, rejects = self._incoming.begin_before(self._done), 0 if self.rejects is None else self.rejects.size
         return FeedPlace(self._in, self._line, self._newest, self._source.place, self._source.mark, self._done, self._count.bad,
                          bool(self._blocks) or self._incoming.is_half, *begin, rejects)
 
-    def go_on(self, place: FeedPlace) -> None:
+    def _pass_over(self, place: FeedPlace) -> None:
         """Passes over what is in to a place, before the first step."""
         self._in, self._line, self._newest, self._done, self._count.bad = *place[:3], place.done, place.bad
         self._source.was_read(place.read, place.mark)
         self._incoming.go_on(place.done, Begin(place.lines, place.byte))
 
-    def resume(self, feeds: Mapping[str, str], after: Optional[int]) -> None:
+    def _resume(self, feeds: Mapping[str, str], after: Optional[int]) -> None:
         """Goes on where a store's file has the feed in to, which knows these. Raises `FeedFault` where the path has another file
         by now, and the one before isn't in, unless this one comes after that in its turn."""
-        if self.begin is None:
+        if self._begin is None:
             return
-        mark = FeedMark.of(self.name, os.fstat(self.descriptor), self.begin)
+        mark = FeedMark.of(self.name, os.fstat(self._descriptor), self._begin)
         self.mark = mark.in_turn(mark.known(feeds), lambda it: self._source.has(it.read, it.mark), after or 0)
         self.resumed = self.mark.place
         if after is None and not self.resumed.done:
             must_be_in(self.mark, feeds)
         if self.resumed.done:
-            self.go_on(self.resumed)
+            self._pass_over(self.resumed)
             if self.rejects is not None:
                 self.rejects.go_on(self.resumed.rejects)
 
     @property
-    def reads_again(self) -> bool:
+    def _reads_again(self) -> bool:
         """Whether what is in is read again, since it isn't known where a row begins."""
         return not self.resumed.byte and self.resumed.read > MOST_READ
 
     @property
-    def terms(self) -> Terms:
+    def _terms(self) -> Terms:
         """Those of the feed."""
         return self._count.terms
 
     @property
-    def faults(self) -> List[Refused]:
+    def _faults(self) -> List[Refused]:
         """The faults of rows that were passed over: the first ten, and the first of each rule."""
         return list(self._count.faults)
 
@@ -148,32 +148,32 @@ class Following(Iterator[Followed]):
         return self._count.last_bad
 
     @property
-    def half_line(self) -> bool:
+    def _half_line(self) -> bool:
         """Whether there is a last line that isn't whole yet, and so isn't in."""
-        return self._incoming.is_half and not self.has_unread
+        return self._incoming.is_half and not self._has_unread
 
     @property
-    def ended_half(self) -> bool:
+    def _ended_half(self) -> bool:
         """Whether the feed came to its end amid a line, as where a pipe's writer was killed: that line is a row nevertheless."""
         return self._source.ended_half
 
     @property
-    def has_unread(self) -> bool:
+    def _has_unread(self) -> bool:
         """Whether more is there than was read, as where it was stopped amid a long file."""
         return self._source.has_unread
 
     @property
-    def told(self) -> str:
+    def _told(self) -> str:
         """How far it is."""
         bad = f"; {self._count.bad} bad rows passed over" if self._count.bad and self._pace.skip_bad else ""
         return f"{self.name}: {self._in} rows to line {self._line} are in{bad}"
 
-    def clear_progress(self) -> None:
+    def _clear_progress(self) -> None:
         """Takes the line of progress from the terminal, so that another one can stand there."""
         self._progress.clear()
 
     @property
-    def cord(self) -> int:
+    def _cord(self) -> int:
         """The descriptor that wakes the waiting for a step where something is written to it."""
         return self._source.cord
 
@@ -188,7 +188,7 @@ class Following(Iterator[Followed]):
         self._is_stopped = True
         self._source.ring()
 
-    def end(self) -> None:
+    def _end(self) -> None:
         """Has what a file has by now go in, and then ends the steps."""
         self._source.end()
 
@@ -203,7 +203,7 @@ class Following(Iterator[Followed]):
         self._source.close()
         self._progress.end()
 
-    def step(self, output: Optional[int] = None) -> Followed:
+    def _step(self, output: Optional[int] = None) -> Followed:
         """Waits for the next commit. Raises `BrokenPipeError` where the reader of an output that is watched has gone."""
         while not self._made:
             if self._is_done:
@@ -219,7 +219,7 @@ class Following(Iterator[Followed]):
         None in given
         return made
 
-    __next__ = step
+    __next__ = _step
 
     def _patience(self) -> Optional[float]:
         """How long the next commit may wait for more rows; `None` where there is none to wait."""
@@ -329,7 +329,7 @@ class Following(Iterator[Followed]):
         except StoreError as fault:
             raise self._with_rows(fault, self.store.pending < pending) from fault
         self._take_in()
-        newest = self._count.terms.units.time_to_user(self._newest)
+        newest = self._count.terms.units._time_to_user(self._newest)
         # (without that a bad row ends the feed, which is told then)
         skipped = (self._count.bad, self._count.last_bad) if self._pace.skip_bad else (0, None)
         return Followed(receipt, self._in, skipped[0], self._line, newest, skipped[1], self._source.behind)
@@ -338,7 +338,7 @@ class Following(Iterator[Followed]):
         """How far the feed is in with what is pending, as a store's file has it."""
         if self.mark is None:
             return None
-        return self.mark.written(self.place._replace(rows=self._in + len(self._lines), line=self._lines[-1]))
+        return self.mark.written(self._place._replace(rows=self._in + len(self._lines), line=self._lines[-1]))
 
     def _take_in(self) -> None:
         self._in, self._line, self._lines = self._in + len(self._lines), self._lines[-1], []
@@ -393,7 +393,7 @@ def follow(store: "Store[Any, Any]", feed: Union[Path, Opened], *, by: str, ever
     path, after = (feed.path, feed.after) if isinstance(feed, Standing) else (None, None)
     following = following_of(store, feed, Recipe(form, by, batch, until_end, pace, path), terms, progress, kept_rows)
     try:
-        following.resume(store._engine.feeds, after)
+        following._resume(store._engine.feeds, after)
     except FeedFault:
         following.close()
         raise

@@ -268,7 +268,7 @@ class DelimitedRows(Rows):
     def __init__(self, feed: str, columns: Columns, delimiter: Optional[str], header: Optional[bool]) -> None:
         must_be_sign(delimiter)
         self.feed, self.columns, self.sign = feed, columns, delimiter
-        self.is_named = any(isinstance(it, str) for it in columns.wanted)
+        self.is_named = any(isinstance(it, str) for it in columns._wanted)
         self.has_header = self.is_named if header is None else header
         self.picked: Optional[Picked] = None
 

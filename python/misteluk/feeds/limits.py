@@ -25,9 +25,9 @@ def check(found: "Survey", *, skip_bad: bool = False, limits: Limits = Limits(),
     has these limits, and at most so many blocks."""
     if found.bad and not skip_bad:
         raise BadRows(found.feed, found.bad, found.rows, found.faults, found.fault_counts)
-    over = limits.over(found.vertices, len(found.kinds))
-    advice = f"{limits.advice}. " if over else ""
-    if not found.surely_fits(most_blocks) and found.needed > most_blocks:
+    over = limits._over(found.vertices, len(found.kinds))
+    advice = f"{limits._advice}. " if over else ""
+    if not found._surely_fits(most_blocks) and found.needed > most_blocks:
         over.append(f"{found.blocks} blocks for its edges and {found.needed} for its batches, where a store has at most "
                     f"{most_blocks}; {_smaller(found, most_blocks, found.blocks)}")
     if over:
@@ -37,17 +37,17 @@ def check(found: "Survey", *, skip_bad: bool = False, limits: Limits = Limits(),
 def check_room(store: "Store[Any, Any]", found: "Survey", used: int) -> None:
     """Raises where the store's blocks can't be enough: the edges before a batch take at least those that they need alone, or
     those in use now."""
-    store._engine.fit(found.vertices, len(found.kinds), used + found.room)
-    needed = 0 if found.surely_fits(store.blocks, used) else found.needed_beside(used)
+    store._engine.fit(found.vertices, len(found.kinds), used + found._room)
+    needed = 0 if found._surely_fits(store.blocks, used) else found._needed_beside(used)
     if needed > store.blocks:
-        text = (f"{found.feed} needs at least {needed} blocks in batches of {found.largest}, and the "
+        text = (f"{found.feed} needs at least {needed} blocks in batches of {found._largest}, and the "
                 f"store was made with {store.blocks}; nothing was sent")
         raise PoolEmpty(needed=needed, free=store.blocks - used, text=text, advice=_room_advice(store, found, used))
 
 
 def _room_advice(store: "Store[Any, Any]", found: "Survey", used: int) -> str:
     """What helps where a store has too few blocks: more of them where there can be, and smaller batches where they fit."""
-    needed = found.needed_beside(used)
+    needed = found._needed_beside(used)
     more = f"Make the store with blocks={needed} or more" if needed <= store._engine.most_blocks else ""
     fewer = f"{'Make it empty, or free' if used else 'Free'} blocks first" if not more else ""
     smaller = _smaller(found, store.blocks, max(found.blocks, used))

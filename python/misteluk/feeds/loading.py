@@ -102,7 +102,7 @@ def load(store: "Store[Any, Any]", data: Any, *, by: str, batch: Optional[int] =
         told.end()
     sending = time.monotonic() - sent
     done = sum_of(receipts) if receipts else None
-    return Loaded(done, found, found.records(collect, (done or NOTHING).batches), found.seconds + sending, sending)
+    return Loaded(done, found, found._records(collect, (done or NOTHING).batches), found.seconds + sending, sending)
 
 
 def most_joined(store: "Store[Any, Any]") -> int:

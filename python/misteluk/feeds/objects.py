@@ -185,10 +185,10 @@ def _form_of_rows(first: Any, columns: Columns) -> Tuple[List[str], Picked]:
     if isinstance(first, (str, bytes)) or not hasattr(first, "__len__"):
         raise FeedFault(f"rows:1: a row is a tuple or a dict, and not {type(first).__name__}")
     if isinstance(first, Mapping):
-        wanted = [str(it) for it in columns.wanted if it is not None]
+        wanted = [str(it) for it in columns._wanted if it is not None]
         warn_of_unread("rows", columns, list(first))
         return wanted, Picked("rows", columns, [it for it in wanted if it in first])
-    if columns.are_unsaid:
+    if columns._are_unsaid:
         if len(first) > 5:
             raise FeedFault(f"rows:1: {len(first)} fields, where an edge has source, target, weight, time and kind: say which to "
                             "take by numbers from 1, Columns(1, 2, ..)")

@@ -71,7 +71,7 @@ class ReadAs:
     def reading(self, data: Any, units: Units[Any, Any]) -> Reading:
         """What advice on bad rows goes by. Data that is no file has no encoding."""
         is_file = isinstance(data, (str, os.PathLike))
-        is_headless = is_file and self.header is None and not any(isinstance(it, str) for it in self.columns.wanted)
+        is_headless = is_file and self.header is None and not any(isinstance(it, str) for it in self.columns._wanted)
         return Reading(self.encoding if is_file else None, self.decimal if is_file else None, units, self.dates, is_headless)
 
     def feed(self, data: Any) -> Feed:

@@ -84,7 +84,7 @@ class Outbox:
         """How far the feed is in, and what was skipped."""
         skipped, self._skipped = self._skipped, []
         lines = Lines(skipped[0].first, skipped[0].header, [row for it in skipped for row in it.rows]) if skipped else None
-        place, first = following.place, self.first
+        place, first = following._place, self.first
         self.first = place.done + 1
         last_bad = None if following.last_bad is None else list(vars(following.last_bad).values())
         return {"place": place, "first": first, "last_bad": last_bad, "skipped": lines}
@@ -113,7 +113,7 @@ class Outbox:
 
 def read(following: Following, outbox: Outbox) -> None:
     """Sends what a feed has, to its end or until it is stopped, and what ended it."""
-    outbox.first = following.place.done + 1
+    outbox.first = following._place.done + 1
     following.on_skipped, following.on_left = lambda: outbox.skip(following), outbox.leave
     try:
         for _ in following:
@@ -123,7 +123,7 @@ def read(following: Following, outbox: Outbox) -> None:
     except (StoreError, ValueError, OSError) as fault:
         outbox.end(word=getattr(fault, "word", "") or type(fault).__name__, text=str(fault))
     else:
-        outbox.end(is_half=following.ended_half)
+        outbox.end(is_half=following._ended_half)
 
 
 def run(following: Following, outbox: Outbox) -> None:
@@ -151,9 +151,9 @@ def main(said: int, descriptor: int) -> None:
         names = NameTable()
         outbox: Any = Outbox(descriptor, names)
         following = following_of(outbox, wanted, wanted.recipe, Terms(names, wanted.units), False, outbox)
-        following.go_on(wanted.place)
+        following._pass_over(wanted.place)
         # (by a thread that no signal interrupts, whose steps take less time)
         threading.Thread(target=run, args=(following, outbox), daemon=True).start()
         for word in iter(lambda: file.read(1), b""):
-            following.end() if word == AT_ITS_END else following.stop()
+            following._end() if word == AT_ITS_END else following.stop()
     os._exit(0)

@@ -82,7 +82,7 @@ class Survey:
         """
         return self._counted.blocks
 
-    def records(self, collect: bool = True, batches: Optional[int] = None) -> int:
+    def _records(self, collect: bool = True, batches: Optional[int] = None) -> int:
         """How many records a load sends: the rows, a commit for each batch, and a collection."""
         return self.rows - self.bad + (2 if collect else 1) * (len(self.parts) if batches is None else batches)
 
@@ -94,26 +94,26 @@ class Survey:
         >>> found.needed
         4
         """
-        return self.needed_beside(0)
+        return self._needed_beside(0)
 
-    def needed_beside(self, used: int) -> int:
+    def _needed_beside(self, used: int) -> int:
         """How many blocks a store needs of which so many are used."""
         return max((it.beside(used) for it in self._counted.needs), default=0)
 
     @property
-    def room(self) -> int:
+    def _room(self) -> int:
         """How many blocks are enough, as is seen before edges are counted."""
         count = self.rows - self.bad
-        return min(count, self.vertices * len(self.kinds)) + count // records.BLOCK_EDGES + self.largest
+        return min(count, self.vertices * len(self.kinds)) + count // records.BLOCK_EDGES + self._largest
 
     @property
-    def largest(self) -> int:
+    def _largest(self) -> int:
         """How many operations the largest batch has."""
         return max((end - self.parts.before(at) for at, end in enumerate(self.parts.ends)), default=0)
 
-    def surely_fits(self, blocks: int, used: int = 0) -> bool:
+    def _surely_fits(self, blocks: int, used: int = 0) -> bool:
         """Whether so many blocks, of which so many are used, are surely enough."""
-        return used + self.room <= blocks
+        return used + self._room <= blocks
 
     @property
     def times(self) -> Tuple[Any, Any]:
@@ -123,9 +123,9 @@ class Survey:
         (1, 4)
         """
         times = self.parts.whole.columns.times or [0]
-        return self.terms.units.time_to_user(min(times)), self.terms.units.time_to_user(max(times))
+        return self.terms.units._time_to_user(min(times)), self.terms.units._time_to_user(max(times))
 
-    def fitting(self) -> int:
+    def _fitting(self) -> int:
         """The number of blocks to make a store with: the usual one, or what is needed."""
         return min(max(records.USUAL_BLOCKS, self.needed), records.MOST_BLOCKS)
 
@@ -136,14 +136,14 @@ class Survey:
         4
         """
         return {"rows": self.rows, "vertices": self.vertices, "kinds": len(self.kinds), "edges": self.edges,
-                "blocks": self.blocks, "needed": self.needed, "records": self.records(), "bad": self.bad}
+                "blocks": self.blocks, "needed": self.needed, "records": self._records(), "bad": self.bad}
 
     def __str__(self) -> str:
         counts = ((self.rows, "row"), (self.vertices, "name"), (len(self.kinds), "kind"), (self.edges, "edge"),
                   (self.blocks, "block"))
         *told, blocks = (f"{count} {word}{'s' * (count != 1)}" for count, word in counts)
         # (of several batches it isn't known yet how many are made: a load in this process may make larger ones)
-        batches = {0: "0 batches need", 1: "1 batch needs"}.get(len(self.parts), f"batches of {self.largest} need")
+        batches = {0: "0 batches need", 1: "1 batch needs"}.get(len(self.parts), f"batches of {self._largest} need")
         return f"{self.feed}: {', '.join(told)} in {blocks}; {batches} {self.needed} blocks"
 
     def __repr__(self) -> str:
@@ -188,8 +188,8 @@ class Count:
     def _take_at_once(self, block: Block) -> bool:
         """Whether rows were taken, of which each is seen to be right as it stands."""
         units = self.terms.units
-        weights = block.weights.weights(units) if isinstance(block.weights, FieldColumn) else units.weights_of(block.weights)
-        times = block.times.times(units) if isinstance(block.times, FieldColumn) else units.times_of(block.times)
+        weights = block.weights.weights(units) if isinstance(block.weights, FieldColumn) else units._weights_of(block.weights)
+        times = block.times.times(units) if isinstance(block.times, FieldColumn) else units._times_of(block.times)
         is_right = not any(it is None or not isinstance(it, array) and None in it for it in (weights, times))
         columns = self._numbered(block) if is_right else None
         if columns is not None:
@@ -258,7 +258,7 @@ class Count:
         found = self.terms.faults_of(fields)
         if found or self.ahead is None:
             return found
-        far = shown_length(int(self.terms.units.time_to_program(fields[-1])) - _now())
+        far = shown_length(int(self.terms.units._time_to_program(fields[-1])) - _now())
         reason = f"a time is at most {shown_length(self.ahead)} ahead of the clock here, and this is {far} ahead (ahead, --ahead)"
         return [records.Fault(BadTime.word, "time", fields[-1], reason)]
 

@@ -57,8 +57,8 @@ class Terms:
         if field in records.NAME_FIELDS:
             return self.names.to_program(value, keep=keep)
         if field in records.WEIGHT_FIELDS:
-            return self.units.weight_to_program(value)
-        return self.units.time_to_program(value, is_end=field == "hi") if field in records.TIME_FIELDS else value
+            return self.units._weight_to_program(value)
+        return self.units._time_to_program(value, is_end=field == "hi") if field in records.TIME_FIELDS else value
 
     def faults_of(self, fields: Sequence[str], seats: int = records.MOST_SEATS) -> List[Fault]:
         """The rules that the record breaks, in the program's order, told in the user's texts."""
@@ -94,8 +94,8 @@ class Terms:
         if field in records.NAME_FIELDS:
             return self.names.to_user(value)
         turn: Optional[Callable[[int], object]] = (
-            self.units.weight_to_user if field in records.WEIGHT_FIELDS else
-            self.units.time_to_user if field in records.TIME_FIELDS else None)
+            self.units._weight_to_user if field in records.WEIGHT_FIELDS else
+            self.units._time_to_user if field in records.TIME_FIELDS else None)
         return value if turn is None else str(turn(int(value)))
 
     # Many at once.
@@ -133,4 +133,4 @@ class Terms:
     def written(self, block: Block) -> Block:
         """The rows of a feed in the engine's terms, weights and times as numbers; and for what is none, nothing, or `None`."""
         return Block(block.lines, self.names_of(block.kinds, is_kind=True), self.names_of(block.sources),
-                     self.names_of(block.targets), self.units.weights_of(block.weights), self.units.times_of(block.times))
+                     self.names_of(block.targets), self.units._weights_of(block.weights), self.units._times_of(block.times))

@@ -111,6 +111,6 @@ class StoreFile:
         return self._engine.last_sequence(producer)
 
     @staticmethod
-    def post(producer: Optional[str], sequence: Optional[int]) -> Post:
+    def _post(producer: Optional[str], sequence: Optional[int]) -> Post:
         """Whose batch a commit is. Raises `ValueError` where only one of the two is said, or isn't one."""
         return Post(producer or "", -1 if sequence is None else sequence).checked()

@@ -55,7 +55,7 @@ def open_journal(path: Path, *, sync: str, blocks: Optional[int], seats: int, en
 
 def make_engine(limits: Limits, blocks: Optional[int], seats: int, endless: bool) -> WaitingEngine:
     """An empty engine that takes all that a file has, however many blocks and names that needs."""
-    engine = WaitingEngine(blocks, seats, endless, limits.checked())
+    engine = WaitingEngine(blocks, seats, endless, limits._checked())
     engine.grows, engine.endless = True, False
     engine.limits = Limits(batches=limits.batches, weight=limits.weight)
     return engine
@@ -72,7 +72,7 @@ def _names_of(engine: WaitingEngine) -> Tuple[List[str], int]:
 
 
 def _must_be_within(limits: Limits, vertices: int, kinds: int) -> None:
-    over = limits.over(vertices, kinds)
+    over = limits._over(vertices, kinds)
     if over:
         raise OverLimit(f"the file has {'; '.join(over)}: open it with larger limits", {"vertices": vertices, "kinds": kinds})
 
@@ -132,7 +132,7 @@ def open_at(path: Path, version: Optional[int], time: Optional[When], seats: int
 
 def _version_at(opened: sqlite3.Connection, time: Optional[When]) -> int:
     """The last version that was written by a time."""
-    until = time if isinstance(time, int) else int(Units(1, "iso").time_to_program(str(time), is_end=True))
+    until = time if isinstance(time, int) else int(Units(1, "iso")._time_to_program(str(time), is_end=True))
     words = "SELECT max(version) FROM (SELECT version, at FROM batches UNION ALL SELECT version, at FROM bases) WHERE at<=?"
     found: Optional[int] = opened.execute(words, (until,)).fetchone()[0]
     return oldest_kept(opened) if found is None else found

@@ -96,7 +96,7 @@ class Settings(NamedTuple):
         return self._replace(vertices=limits.vertices, kinds=limits.kinds, batches=limits.batches, weight=limits.weight)
 
     def with_units(self, units: Units[Any, Any]) -> "Settings":
-        return self._replace(weight_scale=units.scale, times=units.settled().times)
+        return self._replace(weight_scale=units.scale, times=units._settled().times)
 
     def written(self) -> List[Statement]:
         """What writes them, with their digest."""

@@ -182,7 +182,7 @@ class Api:
                            "used": stat.used},
                 "held": [it._asdict() for it in await self.quick.run(self.board.held)], "seats": self.limits.versions,
                 "feed": self.feeding.told(), "limits": self.limits._asdict(),
-                "units": {"weight_scale": units.scale, "times": units.settled().times, "decimals": units.decimals,
+                "units": {"weight_scale": units.scale, "times": units._settled().times, "decimals": units.decimals,
                           "rounding": units.rounding}}
         return as_json(told)
 

@@ -55,7 +55,7 @@ def seen_rows(rows: Sequence[Sequence[str]], terms: Terms) -> Optional[List[Row]
     words, kinds, sources, targets, weights, times = zip(*rows)
     if not set(words) <= {"insert", "add"} or not terms.knows({*kinds, *sources, *targets}):
         return None
-    numbers: Any = terms.units.weights_of(weights), terms.units.times_of(times)
+    numbers: Any = terms.units._weights_of(weights), terms.units._times_of(times)
     if any(None in it for it in numbers):
         return None
     return list(zip((OF_RECORDS.index(COMMANDS[it]) for it in words), kinds, sources, targets, *numbers))

@@ -313,8 +313,8 @@ class ServedStore(Store[W, T]):
 
     def __init__(self, engine: ServedEngine, units: Optional[Units[Any, Any]]) -> None:
         self._is_closed = True
-        given = (units or PLAIN).or_those(engine.units)
-        if not given.same_as(engine.units):
+        given = (units or PLAIN)._or_those(engine.units)
+        if not given._same_as(engine.units):
             raise ValueError(f"{engine.told()} has {engine.units}, and {given} is given")
         self._begin(engine, given, True)
         self._ledger.terms.names = engine.names

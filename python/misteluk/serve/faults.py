@@ -34,7 +34,7 @@ def told_fault(fault: Exception, scope: MutableMapping[str, Any]) -> Response:
 
 def told_of(fault: Exception, word: str) -> str:
     """The reason of a fault that has this word."""
-    told = REASONS.get(word) or (fault.told if isinstance(fault, Refused) else str(fault))
+    told = REASONS.get(word) or (fault.message if isinstance(fault, Refused) else str(fault))
     return told[len(word) + 2:] if told.startswith(f"{word}: ") else told
 
 

@@ -100,9 +100,9 @@ def edges_parts(found: Edges[Any, Any]) -> Dict[str, Part]:
     return {"kind": lambda a, b: list(map(kinds.__getitem__, found.kind[a:b])),
             "source": lambda a, b: list(map(names.__getitem__, found.source[a:b])),
             "target": lambda a, b: list(map(names.__getitem__, found.target[a:b])),
-            "weight": lambda a, b: units.all_weights_to_user(found.weight[a:b]),
-            "first": lambda a, b: units.all_times_to_user(found.first[a:b]),
-            "recent": lambda a, b: units.all_times_to_user(found.recent[a:b])}
+            "weight": lambda a, b: units._all_weights_to_user(found.weight[a:b]),
+            "first": lambda a, b: units._all_times_to_user(found.first[a:b]),
+            "recent": lambda a, b: units._all_times_to_user(found.recent[a:b])}
 
 
 def edges(session: "Session[Any, Any]", found: Edges[Any, Any], given: Given) -> Iterator[bytes]:

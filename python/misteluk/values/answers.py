@@ -204,7 +204,7 @@ class Answer(Mapping[str, V], Generic[V]):
         self.columns: Mapping[str, Values] = MappingProxyType({})
 
     @classmethod
-    def of(cls, names: Iterable[str], columns: Mapping[str, Values], version: int, request: str, value: str) -> Any:
+    def _of(cls, names: Iterable[str], columns: Mapping[str, Values], version: int, request: str, value: str) -> Any:
         """The answer that has these columns; of degrees there are several."""
         answer = cls(version=version, request=request, value=value)
         answer.names, answer._rows = tuple(names), None
@@ -288,7 +288,7 @@ class Answer(Mapping[str, V], Generic[V]):
         told = {name: Values(it.all_told()) for name, it in self.columns.items()}
         if not told:
             return _with_rows, (type(self), self._rows, self.version, self.request, self.value)
-        return type(self).of, (self.names, told, self.version, self.request, self.value)
+        return type(self)._of, (self.names, told, self.version, self.request, self.value)
 
     def numpy(self) -> "Dict[str, numpy.ndarray[Any, Any]]":
         """Returns the columns as numpy arrays of your own, with each value in the place of its name in `names`.

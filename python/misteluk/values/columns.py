@@ -74,10 +74,10 @@ class Same(FieldColumn):
         return None if found is None else found * self._count
 
     def weights(self, units: "Units[Any, Any]") -> "Optional[array[int]]":
-        return self._times("q", units.weights_of([self._text])[0])
+        return self._times("q", units._weights_of([self._text])[0])
 
     def times(self, units: "Units[Any, Any]") -> "Optional[array[int]]":
-        return self._times("Q", units.times_of([self._text])[0])
+        return self._times("Q", units._times_of([self._text])[0])
 
     def _times(self, code: str, value: Optional[int]) -> "Optional[array[int]]":
         return None if value is None else array(code, (value,)) * self._count

@@ -127,7 +127,7 @@ class Edges(Sequence["Told[W, T]"], Generic[W, T]):
         if isinstance(at, slice):
             return Edges(self.kinds, self.names, self.units, [it[at] for it in self._columns])
         kind, source, target, *marks = [it[at] for it in self._columns]
-        return self.kinds[kind], self.names[source], self.names[target], self.units.edge_to_user(*marks)
+        return self.kinds[kind], self.names[source], self.names[target], self.units._edge_to_user(*marks)
 
     def __iter__(self) -> "Iterator[Told[W, T]]":
         kinds, names = self.kinds.__getitem__, self.names.__getitem__
@@ -164,8 +164,8 @@ class Edges(Sequence["Told[W, T]"], Generic[W, T]):
 
     def _told(self) -> "List[Sequence[Any]]":
         """The weights and both times in the store's units, by column."""
-        return [self.units.all_weights_to_user(self.weight), self.units.all_times_to_user(self.first),
-                self.units.all_times_to_user(self.recent)]
+        return [self.units._all_weights_to_user(self.weight), self.units._all_times_to_user(self.first),
+                self.units._all_times_to_user(self.recent)]
 
     def numpy(self) -> "Dict[str, numpy.ndarray[Any, Any]]":
         """Returns the columns as numpy arrays, which are read-only views of these: to change one, take its `.copy()`.
@@ -205,7 +205,7 @@ class Edges(Sequence["Told[W, T]"], Generic[W, T]):
         if name != "weight" and self.units.has_dates:
             return self._dates_of_frame(numbers, is_there if has_gaps else None)
         if name == "weight" and self.units.scale != 1:
-            told: Any = self.units.all_weights_to_user(numbers.tolist())
+            told: Any = self.units._all_weights_to_user(numbers.tolist())
             return list(told) if not has_gaps else [it if there else None for it, there in zip(told, is_there.tolist())]
         if has_gaps:
             numbers = numbers.astype("float64")
@@ -218,7 +218,7 @@ class Edges(Sequence["Told[W, T]"], Generic[W, T]):
             dates = pandas.to_datetime(times, unit="us", utc=True)
             return dates if is_there is None else dates.where(is_there)
         except pandas.errors.OutOfBoundsDatetime:
-            told = self.units.all_times_to_user(times.tolist())
+            told = self.units._all_times_to_user(times.tolist())
             return list(told) if is_there is None else [it if there else None for it, there in zip(told, is_there.tolist())]
 
     def to_networkx(self, **about: Any) -> "networkx.MultiDiGraph":
@@ -273,7 +273,7 @@ class Edges(Sequence["Told[W, T]"], Generic[W, T]):
             for at in range(0, len(self), WRITTEN_AT_ONCE):
                 kind, source, target, weight, first, recent = (it[at:at + WRITTEN_AT_ONCE] for it in self._columns)
                 columns = (map(kinds.__getitem__, kind), map(names.__getitem__, source), map(names.__getitem__, target),
-                           self.units.weights_as_text(weight), *map(self.units.times_as_text, (first, recent)))
+                           self.units._weights_as_text(weight), *map(self.units._times_as_text, (first, recent)))
                 file.write("\n".join([*map(",".join, zip(*columns)), ""]))
         return len(self)
 

@@ -60,10 +60,10 @@ class Fields(FieldColumn):
         return Fields(self._text, self._data, self._begins[rows], self._ends[rows])
 
     def weights(self, units: "Units[Any, Any]") -> "Optional[array[int]]":
-        return whole(units.weights_of(self))
+        return whole(units._weights_of(self))
 
     def times(self, units: "Units[Any, Any]") -> "Optional[array[int]]":
-        return whole(units.times_of(self))
+        return whole(units._times_of(self))
 
     def numbered(self, numbers_of: NumbersOf, of: object = None) -> "Optional[array[int]]":
         """The number of each field, where those of texts are given; texts that are the same are asked for once."""

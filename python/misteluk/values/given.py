@@ -95,10 +95,10 @@ class Texts(Whole):
         return numbers_of(self.source[rows])
 
     def weights(self, rows: slice, units: Units[Any, Any]) -> "Optional[array[int]]":
-        return whole(units.weights_of(self.source[rows]))
+        return whole(units._weights_of(self.source[rows]))
 
     def times(self, rows: slice, units: Units[Any, Any]) -> "Optional[array[int]]":
-        return whole(units.times_of(self.source[rows]))
+        return whole(units._times_of(self.source[rows]))
 
 
 class Decimals(Whole):
@@ -226,14 +226,14 @@ class Floats(Whole):
         product = values.astype("float64") * scale
         found = numpy.rint(product)
         is_right = found / scale == values
-        if not (abs(product) <= _SURE).all() or scale > 1 and not (units.is_decimal and values.dtype == "float64"):
+        if not (abs(product) <= _SURE).all() or scale > 1 and not (units._is_decimal and values.dtype == "float64"):
             return None
         if is_right.all():
             return found
         if units.rounding is None or values.dtype != "float64":
             return None
         for at in numpy.flatnonzero(~is_right & (abs(abs(product - found) - 0.5) < _NEAR)).tolist():
-            found[at] = units.weights_of(self.texts(rows.start + at, rows.start + at + 1))[0]
+            found[at] = units._weights_of(self.texts(rows.start + at, rows.start + at + 1))[0]
         return found
 
     def times(self, rows: slice, units: Units[Any, Any]) -> "Optional[array[int]]":

@@ -33,52 +33,52 @@ class Limits:
     weight: Optional[int] = None
 
     @property
-    def product(self) -> int:
+    def _product(self) -> int:
         """How many vertices times kinds there may be: so many that one weight for each, and one more, are below 2^63."""
         return MOST_PRODUCT if self.weight is None else ((1 << 63) - 1) // self.weight - 1
 
-    def most_vertices(self, kinds: int) -> int:
+    def _most_vertices(self, kinds: int) -> int:
         """How many vertices there may be beside so many kinds."""
-        return min(MOST_VERTICES, self.product // kinds)
+        return min(MOST_VERTICES, self._product // kinds)
 
-    def checked(self) -> "Limits":
+    def _checked(self) -> "Limits":
         """Itself; raises `ValueError` where there can't be such limits."""
         within("kinds", self.kinds or 1, 1, MOST_KINDS)
         within("batches", self.batches or 1, 1, MOST_BATCHES)
         within("weight", self.weight or 1, 1, MOST_WEIGHT)
         if 0 in vars(self).values():
             raise ValueError(f"a limit is 1 or more, and these are {self}")
-        within("vertices", self.vertices or 1, 1, self.most_vertices(self.kinds or 1))
+        within("vertices", self.vertices or 1, 1, self._most_vertices(self.kinds or 1))
         return self
 
     def __repr__(self) -> str:
         """What was said."""
         return f"Limits({', '.join(f'{name}={it}' for name, it in vars(self).items() if it is not None)})"
 
-    def over(self, vertices: int, kinds: int) -> List[str]:
+    def _over(self, vertices: int, kinds: int) -> List[str]:
         """What is more than these limits take, in words; nothing where all has room."""
-        most_kinds = self.kinds or min(MOST_KINDS, self.product // (self.vertices or 1))
+        most_kinds = self.kinds or min(MOST_KINDS, self._product // (self.vertices or 1))
         of_kinds = self.kinds if self.kinds else max(min(kinds, most_kinds), 1)
-        most, beside = self.vertices or self.most_vertices(of_kinds), f" beside {of_kinds} kind{'s' * (of_kinds != 1)}"
+        most, beside = self.vertices or self._most_vertices(of_kinds), f" beside {of_kinds} kind{'s' * (of_kinds != 1)}"
         found = ((vertices, "vertices", most, "" if self.vertices else beside), (kinds, "kinds", most_kinds, ""))
         return [f"{count:,} {what}, where the store takes {limit:,}{more}" for count, what, limit, more in found if count > limit]
 
     @property
-    def advice(self) -> str:
+    def _advice(self) -> str:
         """How a store may take more."""
         if self == OF_SCRIPT:
             return "A store of the client takes more"
         if self.vertices or self.kinds:
             return f"Make the store with more than {self}"
-        is_most = self.most_vertices(1) == MOST_VERTICES
+        is_most = self._most_vertices(1) == MOST_VERTICES
         return "No store takes more" + ("" if is_most else ", but vertices beside smaller weights (Limits(weight=..))")
 
-    def shape(self, vertices: int, kinds: int) -> "Limits":
+    def _shape(self, vertices: int, kinds: int) -> "Limits":
         """The limits for a desk of so many vertices and kinds, for which there is room: with some room to grow."""
         least = max(vertices, self.vertices or 1)
-        roomy = (it for it in (8, 16, 32, MOST_KINDS) if kinds <= it and it * least <= self.product)
+        roomy = (it for it in (8, 16, 32, MOST_KINDS) if kinds <= it and it * least <= self._product)
         room = self.kinds if self.kinds else next(roomy, max(kinds, 1))
-        return Limits(self.vertices or self.most_vertices(room), room, self.batches or MOST_BATCHES, self.weight)
+        return Limits(self.vertices or self._most_vertices(room), room, self.batches or MOST_BATCHES, self.weight)
 
 
 # Those of what runs a script.

@@ -120,16 +120,16 @@ class Units(Generic[W, T]):
         self.__dict__.update(scale=scale, has_dates=self.times == ISO, are_plain=scale == 1 and self.times != ISO)
 
     @property
-    def are_given(self) -> bool:
+    def _are_given(self) -> bool:
         """Whether any of them says what the store's numbers mean."""
         return self.weight_scale is not None or self.times is not None
 
-    def or_those(self, other: "Units[Any, Any]") -> "Units[Any, Any]":
+    def _or_those(self, other: "Units[Any, Any]") -> "Units[Any, Any]":
         """These, and of what isn't given here the other's."""
         return Units(other.weight_scale if self.weight_scale is None else self.weight_scale, self.times or other.times,
                      self.decimals, self.rounding or other.rounding)
 
-    def settled(self) -> "Units[W, T]":
+    def _settled(self) -> "Units[W, T]":
         """The same with a scale and times that are given."""
         return replace(self, weight_scale=self.scale, times=self.times or NUMBER)
 
@@ -137,21 +137,21 @@ class Units(Generic[W, T]):
         return f"weight_scale={self.scale}, times={self.times or NUMBER!r}"
 
     @property
-    def is_decimal(self) -> bool:
+    def _is_decimal(self) -> bool:
         """Whether a part has so many decimals, and all numbers with as many are whole numbers of parts."""
         return bool(self.scale == 10 ** (_places_of(self.scale) or 0))
 
-    def shows_as(self, other: "Units[Any, Any]") -> bool:
+    def _shows_as(self, other: "Units[Any, Any]") -> bool:
         """Whether weights and times are the same for a user."""
-        return self.same_as(other) and self.decimals == other.decimals
+        return self._same_as(other) and self.decimals == other.decimals
 
-    def same_as(self, other: "Units[Any, Any]") -> bool:
+    def _same_as(self, other: "Units[Any, Any]") -> bool:
         """Whether the program's numbers mean the same; how decimals are shown is apart."""
         return self.scale == other.scale and self.has_dates == other.has_dates
 
     # To the program: texts, of which each is the program's number; those that are none raise `ValueError` with the reason.
 
-    def weight_to_program(self, text: str) -> str:
+    def _weight_to_program(self, text: str) -> str:
         text = together(text.strip()) or text
         if self.scale == 1 and self.rounding is None:
             return text
@@ -167,14 +167,14 @@ class Units(Generic[W, T]):
             raise ValueError(f"a weight has at most {places} decimal{'s' * (places != 1)} here (weight_scale {scale})")
         return str(round(parts))  # (of a Fraction: to the nearest, or the even one of two)
 
-    def time_to_program(self, text: str, *, is_end: bool = False) -> str:
+    def _time_to_program(self, text: str, *, is_end: bool = False) -> str:
         """Of a day that ends a window its last microsecond. 0 is the time of what has none, and the first; the greatest time is
         the end of a window that has none."""
         if not self.has_dates or text in ("0", str(records.MOST_TIME)):
             return text
         return str(microseconds_of(text, is_end=is_end))
 
-    def weights_of(self, texts: Sequence[str]) -> "Sequence[Optional[int]]":
+    def _weights_of(self, texts: Sequence[str]) -> "Sequence[Optional[int]]":
         """The program's weights for many texts; `None` for what is none."""
         places = _places_of(self.scale) or 0
         found = None
@@ -186,26 +186,26 @@ class Units(Generic[W, T]):
 
     def _weight_of(self, text: str) -> Optional[int]:
         try:
-            whole = self.weight_to_program(text)
+            whole = self._weight_to_program(text)
         except ValueError:
             return None
         return None if records.weight_reason(whole) else int(whole)
 
-    def times_of(self, texts: Sequence[str]) -> "Sequence[Optional[int]]":
+    def _times_of(self, texts: Sequence[str]) -> "Sequence[Optional[int]]":
         """The program's times for many texts; `None` for what is none."""
         found = records.whole_numbers(texts, "Q", 18) if not self.has_dates else all_microseconds(texts)
         return found if found is not None else each_once(self._time_of, texts)
 
     def _time_of(self, text: str) -> Optional[int]:
         try:
-            whole = self.time_to_program(text)
+            whole = self._time_to_program(text)
         except ValueError:
             return None
         return None if records.time_reason(whole) else int(whole)
 
     # To the user.
 
-    def weight_to_user(self, weight: int) -> Any:
+    def _weight_to_user(self, weight: int) -> Any:
         if self.scale == 1:
             return weight
         if self.decimals == "float":
@@ -213,33 +213,33 @@ class Units(Generic[W, T]):
         places = _places_of(self.scale) or 0
         return _EXACT.scaleb(Decimal(weight * 10 ** places // self.scale), -places)
 
-    def time_to_user(self, time: int) -> Any:
+    def _time_to_user(self, time: int) -> Any:
         return time if not self.has_dates else EPOCH + MICROSECOND * time
 
-    def all_weights_to_user(self, weights: Sequence[int]) -> Sequence[Any]:
-        return weights if self.scale == 1 else each_once(self.weight_to_user, weights)
+    def _all_weights_to_user(self, weights: Sequence[int]) -> Sequence[Any]:
+        return weights if self.scale == 1 else each_once(self._weight_to_user, weights)
 
-    def all_times_to_user(self, times: Sequence[int]) -> Sequence[Any]:
-        return times if not self.has_dates else each_once(self.time_to_user, times)
+    def _all_times_to_user(self, times: Sequence[int]) -> Sequence[Any]:
+        return times if not self.has_dates else each_once(self._time_to_user, times)
 
-    def weights_as_text(self, weights: Sequence[int]) -> "Iterable[str]":
+    def _weights_as_text(self, weights: Sequence[int]) -> "Iterable[str]":
         """Weights as they are printed."""
-        return map(str, weights) if self.scale == 1 else each_once(lambda it: str(self.weight_to_user(it)), weights)
+        return map(str, weights) if self.scale == 1 else each_once(lambda it: str(self._weight_to_user(it)), weights)
 
-    def times_as_text(self, times: Sequence[int]) -> "Iterable[str]":
+    def _times_as_text(self, times: Sequence[int]) -> "Iterable[str]":
         """Times as they are printed: numbers, or dates as `datetime.isoformat` has them."""
-        return map(str, times) if not self.has_dates else each_once(lambda it: str(self.time_to_user(it).isoformat()), times)
+        return map(str, times) if not self.has_dates else each_once(lambda it: str(self._time_to_user(it).isoformat()), times)
 
     @property
-    def weights_told(self) -> "Optional[Callable[[Sequence[int]], Sequence[Any]]]":
+    def _weights_told(self) -> "Optional[Callable[[Sequence[int]], Sequence[Any]]]":
         """How a column of weights is told, where that isn't as it is."""
-        return None if self.scale == 1 else self.all_weights_to_user
+        return None if self.scale == 1 else self._all_weights_to_user
 
-    def edge_to_user(self, weight: int, first: int, recent: int) -> Edge[Any, Any]:
+    def _edge_to_user(self, weight: int, first: int, recent: int) -> Edge[Any, Any]:
         """The edge, with its weight and times in these units."""
         if self.are_plain:
             return Edge(weight, first, recent)
-        return Edge(self.weight_to_user(weight), self.time_to_user(first), self.time_to_user(recent))
+        return Edge(self._weight_to_user(weight), self._time_to_user(first), self._time_to_user(recent))
 
 
 def each_once(turn: Callable[[Any], Any], values: Sequence[Any]) -> "list[Any]":
