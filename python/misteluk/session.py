@@ -122,7 +122,10 @@ class Session(Generic[W, T]):
         """The least number of edges on a walk from the source, for each vertex that one reaches."""
         scope, asked = self._scope("levels", kind, since, until, source)
         name = self._terms.asked(source)
-        reached, levels = self._asked(self._held.levels, asked, scope, name)
+        return self._near(asked, *self._asked(self._held.levels, asked, scope, name))
+
+    def _near(self, asked: Called, reached: Sequence[int], levels: "array[int]") -> Answer[int]:
+        """The vertices that are reached, by number, with their levels."""
         names = self._all_names()
         names = names if len(reached) == len(names) else tuple(map(names.__getitem__, reached))
         return self._answer("level", asked, {"level": Values(levels)}, names)
@@ -310,13 +313,9 @@ class Session(Generic[W, T]):
         goes along an edge either way."""
         if operator.index(hops) < 0:
             raise ValueError(f"hops is 0 or more, and not {hops}")
-        if directed:
-            levels = self.levels(vertex, kind, since, until)
-            near = {name: level for name, level in levels.items() if level <= hops}
-        else:
-            near = walks.reached(self, vertex, hops, kind, since, until)
-        asked = self._scope(f"neighborhood {hops} of", kind, since, until, vertex)[1]
-        return self._answer("level", asked, {"level": Values(array("I", near.values()))}, list(near))
+        scope, asked = self._scope(f"neighborhood {hops} of", kind, since, until, vertex)
+        found = self._asked(self._held.within, asked, scope, self._terms.asked(vertex), hops, not directed)
+        return self._near(asked, *found)
 
     # What it is, and its end.
 

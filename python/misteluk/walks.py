@@ -29,23 +29,6 @@ def back(session: "Session[Any, Any]", levels: Mapping[str, int], target: str, k
     return walk[::-1]
 
 
-def reached(session: "Session[Any, Any]", vertex: str, hops: int, kind: Optional[str], since: Moment,
-            until: Moment) -> Dict[str, int]:
-    """The vertices that are reached in at most so many steps along edges either way, and in how many."""
-    near, front = {vertex: 0}, [vertex]
-    session.out_edges(vertex, kind, since, until)  # (raises where the version doesn't have the vertex or the kind)
-    for hop in range(1, hops + 1):
-        found: Dict[str, None] = {}
-        for name in front:
-            found.update(dict.fromkeys(it[2] for it in session.out_edges(name, kind, since, until)))
-            found.update(dict.fromkeys(it[1] for it in session.in_edges(name, kind, since, until)))
-        front = [it for it in found if it not in near]
-        if not front:
-            break
-        near.update(dict.fromkeys(front, hop))
-    return near
-
-
 def summed(edges: Edges[Any, Any], end: int) -> Dict[str, Edge[Any, Any]]:
     """Edges by one of their ends, 1 or 2; those of several kinds are one."""
     ends = edges.source if end == 1 else edges.target

@@ -9,6 +9,7 @@ from support import Case, optional
 
 import misteluk
 from misteluk import Edge, Neighbor, Session
+from misteluk.engine.held import LibraryVersion
 from misteluk.engine.protocol import Arrays
 from misteluk.values import records
 
@@ -152,7 +153,7 @@ class Walks(Case):
         self.planted("path", Session, "path", lambda walk: None)
         self.planted("edges", Session, "edges", lambda found: [(*ends, edge._replace(first=0)) for *ends, edge in found])
         self.planted("in", Session, "has_edge", lambda found: True)
-        self.planted("within either way", Session, "out_edges", lambda found: found[:0])
+        self.planted("within either way", LibraryVersion, "within", lambda found: (found[0][1:], found[1][1:]))
         self.planted("edges", Arrays, "places", lambda found: found[1:])
         self.planted("no step of a path", Session, "in_edges", lambda found: found[:0])
         if networkx:

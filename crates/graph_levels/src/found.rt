@@ -105,7 +105,7 @@ pub fn near_over<S: Steps>(
     requires { All (λ s. s < S.vertices steps.now) sources.now }
     ensures { IfOk result (λ rows. AreNear (S.vertices steps.now) (S.leads steps.now) sources.now most rows.items) }
 {
-    let mut rows = search(alloc, steps, sources, most)?;
-    rows.sort_unstable_by_key(|row| row.0.0);
-    Ok(rows)
+    let mut found = search(alloc, steps, sources, most)?;
+    found.sort_unstable_by_key(|row| row.0.0);
+    Ok(found)
 }

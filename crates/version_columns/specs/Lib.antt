@@ -1,5 +1,6 @@
-pub mod Views
 pub mod Lookups
-pub mod Texts
-pub mod Tables
+pub mod Nearby
 pub mod Rows
+pub mod Tables
+pub mod Texts
+pub mod Views

@@ -75,10 +75,11 @@ class Kept:
     """What a version keeps from call to call until it is closed: the handles and rows that nobody uses now, and what was asked of
     all. A call takes it once: where the version is closed meanwhile, it ends with what it took, which goes with it."""
 
-    __slots__ = ("idle", "rows", "names", "all", "begins", "by_target", "answers")
+    __slots__ = ("idle", "is_indexed", "rows", "names", "all", "begins", "by_target", "answers")
 
     def __init__(self) -> None:
         self.idle: List[Owned] = []
+        self.is_indexed = False
         self.rows: List[Row] = []
         self.names: Optional[List[str]] = None
         self.all: Optional[Arrays] = None
@@ -257,6 +258,26 @@ class LibraryVersion:
         found = self._table("levels", "I", scope, self._vertex(source))[0]
         reached = [at for at, it in enumerate(found) if it != interface.NOT_REACHED]
         return reached, found if len(reached) == len(found) else array("I", map(found.__getitem__, reached))
+
+    def within(self, scope: Scope, source: str, steps: int, either: bool) -> "Tuple[array[int], array[int]]":
+        view, begin = self._view(scope), array("I", (self._vertex(source),))
+        way = self._index() if either else interface.ALONG
+        count, size, code = c_uint64(), min(self.count, FEW_NAMES), int(Code.BAD_LENGTH)
+        while code == Code.BAD_LENGTH:  # (where there is too little room, the call tells how much it needs)
+            vertices, levels = room("I", size), room("I", size)
+            code = self._ask(self._library.version_within, view, way, address(begin), 1, min(steps, interface.ANY_STEPS),
+                             address(vertices), size, address(levels), size, count)
+            size = count.value
+        check(code)
+        return vertices[:size], levels[:size]
+
+    def _index(self) -> int:
+        """Has each handle that is copied from now on know the edges by their targets. Those of before go."""
+        if not self.kept.is_indexed:
+            with self._known.lock:
+                check(self._library.version_index(self._first.raw))
+            self.kept.idle, self.kept.is_indexed = [], True
+        return interface.EITHER
 
     def edge(self, ends: Ends) -> Optional[Marks]:
         kind, source, target = ends
