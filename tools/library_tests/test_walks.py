@@ -103,8 +103,9 @@ class Walks(unittest.TestCase):
         any_kind = interface.ANY_KIND
         told = [code(2, 3, 2, 8, 9), code(2, 0, 2, 8, 9), code(any_kind, 1, 2, 8, 9), code(any_kind, 2, 1, 8, 9)]
         self.assertEqual(told, [Code.BAD_NUMBER, Code.NO_KIND, Code.NO_VERTEX, Code.BAD_LENGTH])
-        self.assertEqual(call(interface.Version(), view(), 0, at(sources), 1, 1, at(vertices), 9, at(levels), 9, count), Code.NO_HANDLE)
-        self.assertEqual(library().version_index(interface.Version()), Code.NO_HANDLE)
+        none = interface.Version()
+        codes = [call(none, view(), 0, at(sources), 1, 1, at(vertices), 9, at(levels), 9, count), library().version_index(none)]
+        self.assertEqual(codes, [Code.NO_HANDLE] * 2)
         self.assertEqual((count.value, any(vertices), any(levels)), (7, False, False))
 
     def test_a_handle_that_is_indexed_answers_as_before(self) -> None:
