@@ -1,14 +1,14 @@
 -- How a search begins, and what it has found in the end.
-use Rattle.std.proofs.Common.{◌≡◌, ℕ, ◌+◌, ◌<◌, ◌≤◌, zero, suc, arith, refl, sym, ap, ◌∙◌, subst, inl, inr, List, [], ◌∷◌, ◌++◌}
+use Rattle.std.proofs.Common.{◌≡◌, ℕ, ◌+◌, ◌*◌, ◌/◌, ◌<◌, ◌≤◌, zero, suc, arith, refl, sym, ap, ◌∙◌, subst, inl, inr, List, [], ◌∷◌, ◌++◌}
 use Rattle.std.proofs.{Common.{length, set, get_or, not, Option, Some, None, cond, true, false, Bool, ◌⊎◌, ◌&&◌}, lemmas.Bool.cases_eq}
 use Rattle.std.proofs.lemmas.{Bool.{cases_lt, ltb-true, ltb-false}, Option.get_or_from_slice_get, List.{get_or-set_same, get_or-set_other, get_or_past}}
 use Rattle.std.proofs.lemmas.List.{length-replicate, get_or-replicate, map-append, Elements.{All-tail, All-weaker, All-push}}
 use Rattle.std.proofs.lemmas.List.Elements.{All-nil, All-cons, Contains-push, Contains-append_left, All-contains}
-use Rattle.std.specs.{Prelude.{All, replicate, nat_lt}, List.Contains}
+use Rattle.std.specs.{Prelude.{All, IfSome, replicate, nat_lt}, List.Contains}
 use Rattle.graph_types.specs.{Graph.Graph, Analyses.{LeadsTo, Walk, IsLevel, IsTable}, declared.ids.{Filter.Filter, VertexId.VertexId}}
 use Rattle.graph_types.proofs.Counts.{Contains-cons, Contains-cons_cases, Contains-first, Contains-nil}
 use Rattle.graph_levels.specs.Search.{is_unreached, level_of, HasLevel, IsReachedWithin, IsSearch}
-use Rattle.graph_levels.specs.{Near.{AreLevelsFrom, Comes, IsAtMost, IsLevelFrom, is_below}, Reached.{met, stands_in, level_table, vertices_of}}
+use Rattle.graph_levels.specs.{Near.{AreLevelsFrom, Comes, EndsAt, IsAtMost, IsLevelFrom, is_below}, Reached.{is_found, met, stands_in, level_table, vertices_of}}
 use Rattle.graph_levels.proofs.{Frontiers.{none_of, same_level, some_of}, Tables.{length-table, levelled, table_push}}
 
 -- fewer than a bound are within it, and no more than some number that is within it
@@ -32,20 +32,41 @@ bound_is (Some most) n is in' =
     let e : most ≡ n = omega arith in
     ap (λ (k : ℕ). Some k) e
 
--- a search that goes on has a frontier and is below its bound; one that doesn't has none, or has come to it
-pub goes_on : (a b n : ℕ) (most : Option ℕ) → (nat_lt a b && is_below n most) ≡ true → (a < b) × (is_below n most ≡ true)
-goes_on a b n most is = choose (nat_lt a b) (is_below n most) refl refl is where
-  choose : (x y : Bool) → nat_lt a b ≡ x → is_below n most ≡ y → (x && y) ≡ true → (a < b) × (is_below n most ≡ true)
-  choose true true left right both = (ltb-true a b left, right)
-  choose true false left right both = absurd (cc)
-  choose false y left right both = absurd (cc)
+-- a search that goes on has a frontier and is below its bound; one that doesn't has none, or has come to it, or has found
+pub goes_on : (a b n : ℕ) (most : Option ℕ) (found : Bool) → (nat_lt a b && is_below n most && not found) ≡ true
+    → (a < b) × (is_below n most ≡ true)
+goes_on a b n most found is = choose (nat_lt a b) (is_below n most) found refl refl is where
+  choose : (x y z : Bool) → nat_lt a b ≡ x → is_below n most ≡ y → (x && y && not z) ≡ true → (a < b) × (is_below n most ≡ true)
+  choose true true z left right all = (ltb-true a b left, right)
+  choose true false z left right all = absurd (cc)
+  choose false y z left right all = absurd (cc)
 
-pub is_over : (a b n : ℕ) (most : Option ℕ) → (nat_lt a b && is_below n most) ≡ false → (b ≤ a) ⊎ (is_below n most ≡ false)
-is_over a b n most is = choose (nat_lt a b) (is_below n most) refl refl is where
-  choose : (x y : Bool) → nat_lt a b ≡ x → is_below n most ≡ y → (x && y) ≡ false → (b ≤ a) ⊎ (is_below n most ≡ false)
-  choose true true left right both = absurd (cc)
-  choose true false left right both = inr right
-  choose false y left right both = inl (ltb-false a b left)
+pub is_over : (a b n : ℕ) (most : Option ℕ) (found : Bool) → (nat_lt a b && is_below n most && not found) ≡ false
+    → (b ≤ a) ⊎ ((is_below n most ≡ false) ⊎ (found ≡ true))
+is_over a b n most found is = choose (nat_lt a b) (is_below n most) found refl refl refl is where
+  choose : (x y z : Bool) → nat_lt a b ≡ x → is_below n most ≡ y → found ≡ z → (x && y && not z) ≡ false
+      → (b ≤ a) ⊎ ((is_below n most ≡ false) ⊎ (found ≡ true))
+  choose true true true left right is all = inr (inr is)
+  choose true true false left right is all = absurd (cc)
+  choose true false z left right is all = inr (inl right)
+  choose false y z left right is all = inl (ltb-false a b left)
+
+-- what stands in a row has a level
+pub found_level : (n : ℕ) (rows : List (VertexId × ℕ)) (until : Option ℕ) → IfSome until (λ t. t < n) → is_found rows until ≡ true
+    → (most : Option ℕ) (bound : Option ℕ) → EndsAt most until (level_table n rows) bound
+found_level n rows None in' found most bound = absurd (cc)
+found_level n rows (Some t) in' found most bound =
+    inr (some_of (level_of (level_table n rows) t) (levelled n rows t in' ∙ ap not found))
+
+-- a vertex has a place among the marks
+pub marks_within : (until : Option ℕ) (n m : ℕ) → n ≤ 64 * m → IfSome until (λ t. t < n) → IfSome until (λ t. t / 64 < m)
+marks_within None n m words in' = tt
+marks_within (Some t) n m words in' = omega arith
+
+-- a search that ends at its bound
+pub ends : (most until : Option ℕ) (levels : List (Option ℕ)) → EndsAt most until levels most
+ends most None levels = refl
+ends most (Some t) levels = inl refl
 
 module _ (Step : ℕ → ℕ → Type 0) (sources : List ℕ) where
   -- rows of sources alone, each with level 0

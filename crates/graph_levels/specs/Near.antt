@@ -1,5 +1,5 @@
 -- How far walks lead that begin at any of several vertices.
-use Rattle.std.specs.Prelude.{◌≡◌, ℕ, ◌≤◌, List, Option, None, Some, Bool, true, nat_lt}
+use Rattle.std.specs.Prelude.{◌≡◌, ◌⊎◌, ℕ, ◌≤◌, List, Option, None, Some, Bool, true, nat_lt, slice_index_or}
 use Rattle.std.specs.List.{Contains}
 use Rattle.graph_types.specs.{Analyses.{Walk, IsTable}, declared.ids.VertexId.VertexId}
 use Rattle.graph_levels.specs.Reached.{rows_from}
@@ -26,6 +26,16 @@ IsLevelFrom Step sources most v (Some n) = Comes Step sources v n × IsAtMost mo
 -- the levels of so many vertices
 abbrev pub AreLevelsFrom : ℕ → (ℕ → ℕ → Type 0) → List ℕ → Option ℕ → List (Option ℕ) → Type 0
 AreLevelsFrom count Step sources most levels = IsTable count (IsLevelFrom Step sources most) levels
+
+-- a search that was to reach a vertex, if there is one, has found the levels within its bound; or, once it reached that
+-- vertex, those within a nearer one
+abbrev pub EndsAt : Option ℕ → Option ℕ → List (Option ℕ) → Option ℕ → Type 0
+EndsAt most None levels bound = bound ≡ most
+EndsAt most (Some t) levels bound = (bound ≡ most) ⊎ ((n : ℕ) × (slice_index_or levels t None ≡ Some n))
+
+abbrev pub AreFound : ℕ → (ℕ → ℕ → Type 0) → List ℕ → Option ℕ → Option ℕ → List (Option ℕ) → Type 0
+AreFound count Step sources most until levels =
+    (bound : Option ℕ) × AreLevelsFrom count Step sources bound levels × EndsAt most until levels bound
 
 -- the vertices that have one, each with it, in number order
 abbrev pub AreNear : ℕ → (ℕ → ℕ → Type 0) → List ℕ → Option ℕ → List (VertexId × ℕ) → Type 0

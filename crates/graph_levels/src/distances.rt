@@ -1,9 +1,11 @@
 //! Levels, by frontiers.
 
-ghost use Rattle.std.specs.Prelude.{◌≡◌, ◌<◌, ◌≤◌, ◌+◌, ◌*◌, ◌/◌, ℕ, List, [], length, drop, replicate, All, IfOk, OnOk, nat_lt, ◌&&◌};
+ghost use Rattle.std.specs.Prelude.{◌≡◌, ◌<◌, ◌≤◌, ◌+◌, ◌*◌, ◌/◌, ℕ, List, [], length, drop, replicate, All, IfOk, OnOk};
+ghost use Rattle.std.specs.Prelude.{IfSome, nat_lt, not, ◌&&◌};
 ghost use Rattle.graph_types.specs.Limits.{most_names};
 ghost use Rattle.graph_levels.specs.Near as near;
-ghost use Rattle.graph_levels.specs.Near.{AreLevelsFrom};
+ghost use Rattle.graph_levels.specs.Near.{AreFound};
+ghost use Rattle.graph_levels.specs.Reached as reached;
 ghost use Rattle.graph_levels.specs.Reached.{AreRows, AreVertexMarks, met, level_table, vertices_of};
 ghost use Rattle.graph_levels.specs.Search.{IsSearch};
 
@@ -74,27 +76,41 @@ fn is_below(level: u32, most: Option<u32>) -> bool
     }
 }
 
-/// Whether a search goes on: a frontier is left, and its level is below the bound.
-fn goes_on(first: usize, end: usize, depth: u32, most: Option<u32>) -> bool
-    ensures { result ≡ (nat_lt first end && near.is_below depth most) }
+/// Whether there is a vertex to be reached, and it stands in a row.
+fn is_found(marks: &[u64], rows: &[(VertexId, u32)], until: Option<u32>) -> bool
+    requires marks { AreVertexMarks marks.now rows.now }
+    requires within { IfSome until (λ t. t / 64 < length marks.now) }
+    ensures { result ≡ reached.is_found rows.now until }
 {
-    first < end && is_below(depth, most)
+    match until {
+        Some(vertex) => is_marked(marks, vertex),
+        None => false,
+    }
+}
+
+/// Whether a search goes on: a frontier is left, its level is below the bound, and what was to be reached isn't yet.
+fn goes_on(first: usize, end: usize, depth: u32, most: Option<u32>, found: bool) -> bool
+    ensures { result ≡ (nat_lt first end && near.is_below depth most && not found) }
+{
+    first < end && is_below(depth, most) && !found
 }
 
 /// The vertices that a walk reaches from the sources, within the bound if there is one, each with its level, in the order in
-/// which they are found. Each of them is marked.
+/// which they are found. Each of them is marked. Once the vertex `until` is reached, it goes no further.
 fn reach<S: Steps>(
     alloc: Global,
     steps: &S,
     marks: &mut [u64],
     sources: &[u32],
     most: Option<u32>,
+    until: Option<u32>,
 ) -> Result<Vec<(VertexId, u32)>, AllocError>
     requires sources { All (λ s. s < S.vertices steps.now) sources.now }
+    requires until { IfSome until (λ t. t < S.vertices steps.now) }
     requires fresh { marks.old ≡ replicate (S.vertices steps.now / 64 + 1) 0 }
     requires within { (a b : ℕ) → S.leads steps.now a b → (a < S.vertices steps.now) × (b < S.vertices steps.now) }
     requires few { S.vertices steps.now ≤ most_names }
-    ensures levels { IfOk result (λ rows. AreLevelsFrom (S.vertices steps.now) (S.leads steps.now) sources.now most
+    ensures levels { IfOk result (λ rows. AreFound (S.vertices steps.now) (S.leads steps.now) sources.now most until
         (level_table (S.vertices steps.now) rows.items)) }
     ensures rows { IfOk result (λ rows. AreRows (S.vertices steps.now) rows.items) }
 {
@@ -103,7 +119,13 @@ fn reach<S: Steps>(
     let mut next = Vec::new(alloc);
     let mut first = 0;
     let mut depth = 0;
-    'frontiers: while goes_on(first, rows.len(), depth, most) {
+    'frontiers: while goes_on(
+        first,
+        rows.len(),
+        depth,
+        most,
+        is_found(marks, &rows, until),
+    ) {
         let end = rows.len();
         advance(steps, marks, &mut rows, &mut next, first, depth)?;
         first = end;
@@ -113,18 +135,21 @@ fn reach<S: Steps>(
 }
 
 /// The vertices that a walk reaches from the sources, within the bound if there is one, each with its level, in the order in
-/// which they are found. Beside them it takes a bit for each vertex, and where steps lead from one vertex.
+/// which they are found; it goes no further once it reached the vertex `until`. Beside them it takes a bit for each vertex, and
+/// where steps lead from one vertex.
 pub(crate) fn search<S: Steps>(
     alloc: Global,
     steps: &S,
     sources: &[u32],
     most: Option<u32>,
+    until: Option<u32>,
 ) -> Result<Vec<(VertexId, u32)>, AllocError>
-    requires { All (λ s. s < S.vertices steps.now) sources.now }
-    ensures levels { IfOk result (λ rows. AreLevelsFrom (S.vertices steps.now) (S.leads steps.now) sources.now most
+    requires sources { All (λ s. s < S.vertices steps.now) sources.now }
+    requires until { IfSome until (λ t. t < S.vertices steps.now) }
+    ensures levels { IfOk result (λ rows. AreFound (S.vertices steps.now) (S.leads steps.now) sources.now most until
         (level_table (S.vertices steps.now) rows.items)) }
     ensures rows { IfOk result (λ rows. AreRows (S.vertices steps.now) rows.items) }
 {
     let mut marks = vec![in alloc; 0; steps.vertex_count() / WORD + 1]?;
-    reach(alloc, steps, &mut marks, sources, most)
+    reach(alloc, steps, &mut marks, sources, most, until)
 }

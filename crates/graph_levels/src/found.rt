@@ -1,9 +1,9 @@
 //! What a search found, as a table or as rows.
 
-ghost use Rattle.std.specs.Prelude.{◌≡◌, ◌<◌, length, All, IfOk};
+ghost use Rattle.std.specs.Prelude.{◌≡◌, ◌<◌, ◌∷◌, [], None, Some, length, All, IfOk};
 ghost use Rattle.graph_types.specs.Analyses.{AreLevels};
 ghost use Rattle.graph_levels.specs.Reached.{TellLevels};
-ghost use Rattle.graph_levels.specs.Near.{AreNear};
+ghost use Rattle.graph_levels.specs.Near.{AreFound, AreNear};
 ghost use Rattle.graph_levels.specs.Reached.{AreRows, level_table, vertices_of};
 
 use crate::distances::search;
@@ -51,7 +51,7 @@ fn search_from<R: ViewEdges>(
         (level_table (length (R.graph edges.now).names) rows.items)) }
     ensures rows { IfOk result (λ rows. AreRows (length (R.graph edges.now).names) rows.items) }
 {
-    let rows = search(alloc, &Along { edges }, &[source.0], None)?;
+    let rows = search(alloc, &Along { edges }, &[source.0], None, None)?;
     Ok(rows)
 }
 
@@ -105,7 +105,24 @@ pub fn near_over<S: Steps>(
     requires { All (λ s. s < S.vertices steps.now) sources.now }
     ensures { IfOk result (λ rows. AreNear (S.vertices steps.now) (S.leads steps.now) sources.now most rows.items) }
 {
-    let mut found = search(alloc, steps, sources, most)?;
+    let mut found = search(alloc, steps, sources, most, None)?;
     found.sort_unstable_by_key(|row| row.0.0);
     Ok(found)
+}
+
+/// The levels of the vertices that are no farther from the source than the target is, along with those of others that were found
+/// on the way; of all that a walk reaches, where none reaches the target. Source and target are vertices. The only error is out of
+/// memory.
+pub fn levels_up_to<S: Steps>(
+    alloc: Global,
+    steps: &S,
+    source: VertexId,
+    target: VertexId,
+) -> Result<Vec<Option<u32>>, AllocError>
+    requires source { source.0 < S.vertices steps.now }
+    requires target { target.0 < S.vertices steps.now }
+    ensures { IfOk result (λ levels. AreFound (S.vertices steps.now) (S.leads steps.now) (source.0 ∷ []) None (Some target.0) levels.items) }
+{
+    let rows = search(alloc, steps, &[source.0], None, Some(target.0))?;
+    table(alloc, &rows, steps.vertex_count())
 }

@@ -11,7 +11,7 @@ mod parts;
 mod steps;
 mod versions;
 
-pub use found::{Levels, levels_over, near_over, reached_over};
+pub use found::{Levels, levels_over, levels_up_to, near_over, reached_over};
 pub use parts::labels_over;
 pub use steps::{Along, Steps};
 pub use versions::{LevelError, labels, levels, reached};

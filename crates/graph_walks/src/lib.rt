@@ -7,6 +7,8 @@
 
 mod backward;
 mod incoming;
+mod paths;
 
 pub use backward::{Against, EitherWay};
 pub use incoming::Incoming;
+pub use paths::path;

@@ -1,5 +1,6 @@
 pub mod Lookups
 pub mod Nearby
+pub mod Paths
 pub mod Rows
 pub mod Tables
 pub mod Texts

@@ -1,9 +1,9 @@
 use Rattle.std.proofs.Common.{◌≡◌, ◌≤◌, ◌<◌, ◌+◌, ◌/◌, ◌∙◌, ◌⊎◌, [], ℕ, List, Some, inl, inr, arith, length, drop, refl, ap, sym, subst}
 use Rattle.std.{proofs.lemmas.List.length-replicate, specs.Prelude.{All, replicate}}
 use Rattle.graph_types.specs.declared.ids.VertexId.{VertexId}
-use Rattle.graph_levels.specs.{Search.IsSearch, Reached.{AreRows, level_table, met, vertices_of}}
+use Rattle.graph_levels.specs.{Search.IsSearch, Reached.{AreRows, is_found, level_table, met, vertices_of}}
 use Rattle.graph_levels.proofs.{Frontiers.deeper, Marking.no_marks}
-use Rattle.graph_levels.proofs.Searches.{begin, begin_flat, bound_is, found, goes_on, is_over, less_is_within, none_is_within}
+use Rattle.graph_levels.proofs.Searches.{begin, begin_flat, bound_is, ends, found, found_level, goes_on, is_over, less_is_within, marks_within, none_is_within}
 use Rattle.graph_levels.proofs.Tables.{few_rows, length-table, met_rows, no_rows, none_left}
 use Rattle.graph_levels.proofs.distances.reach.Goals as goal
 
@@ -16,6 +16,10 @@ visit-requires-clause-within g c = λ k d lt.
 pub visit-requires-clause-marks : goal.visit-requires-clause-marks
 visit-requires-clause-marks g c =
     rw (c.requires.fresh, c.new-rows.ensures.items) (no_marks (g.S.Steps.vertices c.args.steps.now / 64 + 1))
+
+pub is_found-requires-clause-within : goal.is_found-requires-clause-within
+is_found-requires-clause-within g c =
+    marks_within c.args.until (g.S.Steps.vertices c.args.steps.now) (length c.frontiers.marks) c.frontiers.invariant.words c.requires.until
 
 pub frontiers-init : goal.frontiers-init
 frontiers-init g c =
@@ -46,7 +50,8 @@ frontiers-preserved g c =
     let old = c.frontiers.rows.items in
     let new = c.advance.new.rows.items in
     let end : length old ≡ c.len-end.result = omega (arith, c.len-end.ensures) in
-    let on = goes_on c.frontiers.first c.len.result d c.args.most (sym c.goes_on.ensures ∙ c.frontiers-test.true) in
+    let on = goes_on c.frontiers.first c.len.result d c.args.most c.is_found.result
+    (sym c.goes_on.ensures ∙ c.frontiers-test.true) in
     let more : IsSearch step sources (level_table n new) [] (vertices_of (drop (length old) new)) d =
     c.in_ok-advance.ensures.search sources i.search in
     record {
@@ -70,9 +75,24 @@ returns-clause-levels g c =
     let i = c.frontiers.invariant in
     let rows = c.frontiers.rows.items in
     let rest = vertices_of (drop c.frontiers.first rows) in
-    let end : (rest ≡ []) ⊎ (c.args.most ≡ Some d) =
-    elim (is_over c.frontiers.first c.len.result d c.args.most (sym c.goes_on.ensures ∙ c.frontiers-test.false)) [
-      | inl past ↦ inl (none_left c.frontiers.first rows (omega (arith, past, c.len.ensures)))
-      | inr bound ↦ inr (bound_is c.args.most d bound i.bound)
-    ] in
-    found step sources (level_table n rows) rest d c.args.most i.search i.flat i.bound end n (length-table n rows)
+    elim (is_over c.frontiers.first c.len.result d c.args.most c.is_found.result (sym c.goes_on.ensures ∙ c.frontiers-test.false)) [
+      | inl past ↦ (
+        c.args.most,
+        found step sources (level_table n rows) rest d c.args.most i.search i.flat i.bound
+            (inl (none_left c.frontiers.first rows (omega (arith, past, c.len.ensures)))) n (length-table n rows),
+        ends c.args.most c.args.until (level_table n rows),
+      )
+      | inr (inl bound) ↦ (
+        c.args.most,
+        found step sources (level_table n rows) rest d c.args.most i.search i.flat i.bound
+            (inr (bound_is c.args.most d bound i.bound)) n (length-table n rows),
+        ends c.args.most c.args.until (level_table n rows),
+      )
+      | inr (inr there) ↦ (
+        Some d,
+        found step sources (level_table n rows) rest d (Some d) i.search i.flat (omega arith) (inr refl) n (length-table n rows),
+        found_level n rows c.args.until c.requires.until
+            (ap (λ (rs : List (VertexId × ℕ)). is_found rs c.args.until) (sym c.deref.ensures.value) ∙ sym c.is_found.ensures ∙ there)
+            c.args.most (Some d),
+      )
+    ]
