@@ -1,11 +1,11 @@
 //! The version that a handle holds.
 
-ghost use Rattle.std.specs.Prelude.{◌≡◌, ◌⊎◌, Some, None, IfOk, IfErr};
+ghost use Rattle.std.specs.Prelude.{◌≡◌, Some, IfOk, IfErr};
 ghost use Rattle.std.specs.Option.{option_copied};
 ghost use Rattle.std.specs.Arc.{arc_value};
 ghost use Rattle.graph_version.specs.declared.versions.Version.{Version};
 ghost use Rattle.graph_walks.specs.declared.incoming.Incoming.{Incoming};
-ghost use Rattle.misteluk_c.specs.Held.{held_version_of};
+ghost use Rattle.misteluk_c.specs.Held.{held_version_of, Asks};
 
 use crate::codes::{MEMORY, NO_HANDLE};
 use graph_version::Version;
@@ -50,7 +50,7 @@ fn incoming_of(alloc: Global, version: &Arc<Version>) -> Result<Arc<Incoming>, A
 pub(crate) fn indexed(alloc: Global, held: &mut Held) -> Result<Arc<Incoming>, u32>
     ensures same { held_version_of (Some held.new) ≡ held_version_of (Some held.old) }
     ensures made { IfOk result (λ incoming. held_version_of (Some held.old) ≡ Some (arc_value {X = Incoming} incoming)) }
-    ensures refused { IfErr result (λ code. ((code ≡ 2) × (held_version_of (Some held.old) ≡ None)) ⊎ (code ≡ 1)) }
+    ensures refused { IfErr result (λ code. Asks (held_version_of (Some held.old)) code (λ v. code ≡ 1)) }
 {
     let made = match &*held {
         Held::Version(version) => incoming_of(alloc, version),

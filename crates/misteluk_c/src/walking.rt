@@ -41,12 +41,19 @@ pub extern "C" fn misteluk_version_index(alloc: Global, version: &mut Handle) ->
     let Some(mut held) = version.take(alloc) else {
         return NO_HANDLE;
     };
-    let code = match indexed(alloc, &mut held) {
-        Ok(_incoming) => OK,
-        Err(code) => code,
-    };
+    let code = index(alloc, &mut held);
     version.put(held);
     code
+}
+
+fn index(alloc: Global, held: &mut Held) -> u32
+    ensures same { held_version_of (Some held.new) ≡ held_version_of (Some held.old) }
+    ensures told { Asks (held_version_of (Some held.old)) result (λ v. (result ≡ 0) ⊎ (result ≡ 1)) }
+{
+    match indexed(alloc, held) {
+        Ok(_incoming) => OK,
+        Err(code) => code,
+    }
 }
 
 /// Writes the vertices that walks reach, each with its level.
@@ -100,28 +107,24 @@ fn within(
     ensures none { held_version_of (Some held.old) ≡ None
         → (vertices.new ≡ vertices.old) × (levels.new ≡ levels.old) × (count.new ≡ count.old) }
 {
-    if let Direction::Along = direction {
-        return match version_in(held) {
+    match direction {
+        Direction::Along => match version_in(held) {
             Some(version) => columns_code(write_within(
-                alloc,
-                &Ways::Along(version),
-                view,
-                sources,
-                steps,
-                vertices,
-                levels,
-                count,
+                alloc, &Ways::Along(version), view, sources, steps, vertices, levels, count,
             )),
             None => NO_HANDLE,
-        };
+        },
+        Direction::Against => match indexed(alloc, held) {
+            Ok(incoming) => columns_code(write_within(
+                alloc, &Ways::Against(&incoming), view, sources, steps, vertices, levels, count,
+            )),
+            Err(code) => code,
+        },
+        Direction::Either => match indexed(alloc, held) {
+            Ok(incoming) => columns_code(write_within(
+                alloc, &Ways::EitherWay(&incoming), view, sources, steps, vertices, levels, count,
+            )),
+            Err(code) => code,
+        },
     }
-    let incoming = match indexed(alloc, held) {
-        Ok(incoming) => incoming,
-        Err(code) => return code,
-    };
-    let ways = match direction {
-        Direction::Either => Ways::EitherWay(&incoming),
-        _ => Ways::Against(&incoming),
-    };
-    columns_code(write_within(alloc, &ways, view, sources, steps, vertices, levels, count))
 }
