@@ -323,6 +323,12 @@ uint32_t misteluk_version_index(misteluk_version *version);
 uint32_t misteluk_version_within(misteluk_version *version, const misteluk_view *view, uint32_t direction, const uint32_t *sources,
     size_t sources_length, uint32_t steps, uint32_t *vertices, size_t vertices_length, uint32_t *levels, size_t levels_length,
     uint64_t *count);
+/* Writes the vertices of a walk along edges of the view from the source to the target, with both, of which none has fewer: from the
+ * target on, each is the least vertex that can stand there. `count` tells how many they are, 0 where no walk leads there; where
+ * there are fewer places nothing is written and the code is BAD_LENGTH, with `count` told. It needs misteluk_version_index.
+ * NO_HANDLE, NO_KIND, NO_VERTEX, BAD_LENGTH, MEMORY. */
+uint32_t misteluk_version_path(misteluk_version *version, const misteluk_view *view, uint32_t source, uint32_t target,
+    uint32_t *vertices, size_t vertices_length, uint64_t *count);
 /* For each vertex: the least number of a vertex that edges of the view join it to, whatever their direction.
  * NO_HANDLE, NO_KIND, BAD_LENGTH, MEMORY. */
 uint32_t misteluk_version_labels(misteluk_version *version, const misteluk_view *view, uint32_t *labels, size_t labels_length);

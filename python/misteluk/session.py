@@ -296,16 +296,16 @@ class Session(Generic[W, T]):
     def path(self, source: str, target: str, kind: Optional[str] = None, since: Moment = 0, until: Moment = LAST, *,
              edges: bool = False) -> Any:
         """A shortest walk from the source to the target, along edges, as the names on it with both ends; `None` where there is
-        none. With `edges=True` as its edges, (kind, source, target, `Edge`) each, one of several kinds that join two names."""
-        scope, asked = self._scope("path", kind, since, until, target)
-        levels = self.levels(source, kind, since, until)
-        if target not in levels:
-            self._asked(self._held.levels, asked, scope, self._terms.asked(target))
-            return None
-        walk = walks.back(self, levels, target, kind, since, until)
-        if edges:
-            return walk
-        return [source, *(it[2] for it in walk)]
+        none. Of several it is the one that has, from the target on, the first vertex in the version's order each time. With
+        `edges=True` as its edges, (kind, source, target, `Edge`) each, of several kinds that join two names the first."""
+        self._scope("path", kind, since, until, target)
+        scope, asked = self._scope("path", kind, since, until, source, target)
+        names = self._all_names()
+        found = self._asked(self._held.path, asked, scope, self._terms.asked(source), self._terms.asked(target))
+        walk = list(map(names.__getitem__, found))
+        if edges and walk:
+            return [walks.step(self.out_edges(begin, kind, since, until), end) for begin, end in zip(walk, walk[1:])]
+        return walk or None
 
     def neighborhood(self, vertex: str, hops: int, kind: Optional[str] = None, since: Moment = 0, until: Moment = LAST, *,
                      directed: bool = True) -> Answer[int]:

@@ -211,6 +211,18 @@ class Version(Owner):
         must(code)
         return list(zip(*table))[:count.value]
 
+    def path(self, seen: interface.View, source: int, target: int) -> List[int]:
+        """The vertices of a shortest walk, in a column that is as long as it has to be; none where there is no walk."""
+        count, size, code, found = c_uint64(), 0, Code.BAD_LENGTH, column("I", 0)
+        while code == Code.BAD_LENGTH:
+            code = Code(self.library.version_path(self.handle, seen, source, target, at(found), size, count))
+            if code == Code.BAD_LENGTH:
+                assert count.value > size and not any(found)
+                size = count.value
+                found = column("I", size)
+        must(code)
+        return list(found)[:count.value]
+
     def row(self, seen: interface.View, source: int) -> List[Row]:
         """One source's edges, in columns that are as long as they have to be: the length is asked for with none."""
         none, count = [column("Q", 0)] * 6, c_uint64()

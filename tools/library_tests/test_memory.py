@@ -97,6 +97,7 @@ CALLS: "dict[str, Callable[[State], object]]" = {
     "version_within along": lambda it: it.held.within(view(), interface.ALONG, [0], 2),
     "version_within against": lambda it: it.held.within(view(), interface.AGAINST, [2], 2),
     "version_within either way": lambda it: it.held.within(view(), interface.EITHER, [1, 1], interface.ANY_STEPS),
+    "version_path": lambda it: (it.held.path(view(), 0, 2), it.held.path(view(), 2, 1)),
     "version_clone of an indexed one": lambda it: (it.held.index(), it.made.append(it.held.clone())),
     "version_degrees": lambda it: it.held.degrees(view()),
     "version_row": lambda it: it.held.row(view(), 0),

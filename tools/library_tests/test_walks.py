@@ -39,6 +39,14 @@ def levels_of(pairs: Pairs, sources: Sequence[int], most: int) -> Dict[int, int]
     return found
 
 
+def path_to(pairs: Pairs, levels: Dict[int, int], target: int) -> List[int]:
+    """The shortest walk that has, from its end on, the least vertex each time; none where there is none."""
+    walk = [target] if target in levels else []
+    while walk and levels[walk[0]]:
+        walk.insert(0, min(a for a, b in pairs if b == walk[0] and levels.get(a) == levels[b] - 1))
+    return walk
+
+
 class Walks(unittest.TestCase):
     def graph(self, seed: int) -> Tuple[random.Random, Version]:
         """A version of a random graph, of two kinds, with loops and edges that were taken away."""
@@ -80,6 +88,21 @@ class Walks(unittest.TestCase):
     def test_they_are_those_of_sets(self) -> None:
         self.assertEqual(sum(self.asked(seed, lambda it: it) for seed in range(300)), 0)
 
+    def walked(self, seed: int, change: "Callable[[List[int]], List[int]]") -> int:
+        """How many paths differ from those that sets of pairs show, each after a change."""
+        draw, version = self.graph(seed)
+        kind, window = draw.choice([None, 0]), draw.choice([EVER, (3, 12)])
+        pairs, differ = steps_of(version, kind, window, interface.ALONG), 0
+        for source in range(version.size.vertices):
+            levels = levels_of(pairs, [source], interface.ANY_STEPS)
+            for target in range(version.size.vertices):
+                differ += change(version.path(view(kind, window), source, target)) != path_to(pairs, levels, target)
+        return differ
+
+    def test_paths_are_those_of_sets(self) -> None:
+        self.assertEqual(sum(self.walked(seed, lambda it: it) for seed in range(120)), 0)
+        self.assertGreater(sum(self.walked(seed, lambda it: it[:1]) for seed in range(20)), 100)
+
     def test_a_planted_fault_is_found(self) -> None:
         for change in (lambda it: it[1:], lambda it: it[::-1], lambda it: [(a, b + 1) for a, b in it]):
             self.assertGreater(sum(self.asked(seed, change) for seed in range(40)), 10)
@@ -104,8 +127,13 @@ class Walks(unittest.TestCase):
         told = [code(2, 3, 2, 8, 9), code(2, 0, 2, 8, 9), code(any_kind, 1, 2, 8, 9), code(any_kind, 2, 1, 8, 9)]
         self.assertEqual(told, [Code.BAD_NUMBER, Code.NO_KIND, Code.NO_VERTEX, Code.BAD_LENGTH])
         none = interface.Version()
-        codes = [call(none, view(), 0, at(sources), 1, 1, at(vertices), 9, at(levels), 9, count), library().version_index(none)]
-        self.assertEqual(codes, [Code.NO_HANDLE] * 2)
+        codes = [call(none, view(), 0, at(sources), 1, 1, at(vertices), 9, at(levels), 9, count), library().version_index(none),
+                 library().version_path(none, view(), 0, 0, at(vertices), 9, count)]
+        self.assertEqual(codes, [Code.NO_HANDLE] * 3)
+        ways = [(2, 0, 0, 9), (any_kind, 0, version.size.vertices, 9), (any_kind, version.size.vertices, 0, 9)]
+        told = [Code(library().version_path(held, interface.View(*EVER, kind), source, target, at(vertices), room, count))
+                for kind, source, target, room in ways]
+        self.assertEqual(told, [Code.NO_KIND, Code.NO_VERTEX, Code.NO_VERTEX])
         self.assertEqual((count.value, any(vertices), any(levels)), (7, False, False))
 
     def test_a_handle_that_is_indexed_answers_as_before(self) -> None:

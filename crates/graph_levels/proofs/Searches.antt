@@ -8,7 +8,7 @@ use Rattle.std.specs.{Prelude.{All, IfSome, replicate, nat_lt}, List.Contains}
 use Rattle.graph_types.specs.{Graph.Graph, Analyses.{LeadsTo, Walk, IsLevel, IsTable}, declared.ids.{Filter.Filter, VertexId.VertexId}}
 use Rattle.graph_types.proofs.Counts.{Contains-cons, Contains-cons_cases, Contains-first, Contains-nil}
 use Rattle.graph_levels.specs.Search.{is_unreached, level_of, HasLevel, IsReachedWithin, IsSearch}
-use Rattle.graph_levels.specs.{Near.{AreLevelsFrom, Comes, EndsAt, IsAtMost, IsLevelFrom, is_below}, Reached.{is_found, met, stands_in, level_table, vertices_of}}
+use Rattle.graph_levels.specs.{Near.{AreLevelsFrom, Comes, IsSearchBound, IsAtMost, IsLevelFrom, is_below}, Reached.{is_found, met, stands_in, level_table, vertices_of}}
 use Rattle.graph_levels.proofs.{Frontiers.{none_of, same_level, some_of}, Tables.{length-table, levelled, table_push}}
 
 -- fewer than a bound are within it, and no more than some number that is within it
@@ -53,7 +53,7 @@ is_over a b n most found is = choose (nat_lt a b) (is_below n most) found refl r
 
 -- what stands in a row has a level
 pub found_level : (n : ℕ) (rows : List (VertexId × ℕ)) (until : Option ℕ) → IfSome until (λ t. t < n) → is_found rows until ≡ true
-    → (most : Option ℕ) (bound : Option ℕ) → EndsAt most until (level_table n rows) bound
+    → (most : Option ℕ) (bound : Option ℕ) → IsSearchBound most until (level_table n rows) bound
 found_level n rows None in' found most bound = absurd (cc)
 found_level n rows (Some t) in' found most bound =
     inr (some_of (level_of (level_table n rows) t) (levelled n rows t in' ∙ ap not found))
@@ -64,7 +64,7 @@ marks_within None n m words in' = tt
 marks_within (Some t) n m words in' = omega arith
 
 -- a search that ends at its bound
-pub ends : (most until : Option ℕ) (levels : List (Option ℕ)) → EndsAt most until levels most
+pub ends : (most until : Option ℕ) (levels : List (Option ℕ)) → IsSearchBound most until levels most
 ends most None levels = refl
 ends most (Some t) levels = inl refl
 

@@ -29,13 +29,13 @@ AreLevelsFrom count Step sources most levels = IsTable count (IsLevelFrom Step s
 
 -- a search that was to reach a vertex, if there is one, has found the levels within its bound; or, once it reached that
 -- vertex, those within a nearer one
-abbrev pub EndsAt : Option ℕ → Option ℕ → List (Option ℕ) → Option ℕ → Type 0
-EndsAt most None levels bound = bound ≡ most
-EndsAt most (Some t) levels bound = (bound ≡ most) ⊎ ((n : ℕ) × (slice_index_or levels t None ≡ Some n))
+abbrev pub IsSearchBound : Option ℕ → Option ℕ → List (Option ℕ) → Option ℕ → Type 0
+IsSearchBound most None levels bound = bound ≡ most
+IsSearchBound most (Some t) levels bound = (bound ≡ most) ⊎ ((n : ℕ) × (slice_index_or levels t None ≡ Some n))
 
-abbrev pub AreFound : ℕ → (ℕ → ℕ → Type 0) → List ℕ → Option ℕ → Option ℕ → List (Option ℕ) → Type 0
-AreFound count Step sources most until levels =
-    (bound : Option ℕ) × AreLevelsFrom count Step sources bound levels × EndsAt most until levels bound
+abbrev pub AreFoundFor : ℕ → (ℕ → ℕ → Type 0) → List ℕ → Option ℕ → Option ℕ → List (Option ℕ) → Type 0
+AreFoundFor count Step sources most until levels =
+    (bound : Option ℕ) × AreLevelsFrom count Step sources bound levels × IsSearchBound most until levels bound
 
 -- the vertices that have one, each with it, in number order
 abbrev pub AreNear : ℕ → (ℕ → ℕ → Type 0) → List ℕ → Option ℕ → List (VertexId × ℕ) → Type 0

@@ -4,7 +4,7 @@ ghost use Rattle.std.specs.Prelude.{◌≡◌, ◌<◌, ◌≤◌, ◌+◌, ◌*
 ghost use Rattle.std.specs.Prelude.{IfSome, nat_lt, not, ◌&&◌};
 ghost use Rattle.graph_types.specs.Limits.{most_names};
 ghost use Rattle.graph_levels.specs.Near as near;
-ghost use Rattle.graph_levels.specs.Near.{AreFound};
+ghost use Rattle.graph_levels.specs.Near.{AreFoundFor};
 ghost use Rattle.graph_levels.specs.Reached as reached;
 ghost use Rattle.graph_levels.specs.Reached.{AreRows, AreVertexMarks, met, level_table, vertices_of};
 ghost use Rattle.graph_levels.specs.Search.{IsSearch};
@@ -110,7 +110,7 @@ fn reach<S: Steps>(
     requires fresh { marks.old ≡ replicate (S.vertices steps.now / 64 + 1) 0 }
     requires within { (a b : ℕ) → S.leads steps.now a b → (a < S.vertices steps.now) × (b < S.vertices steps.now) }
     requires few { S.vertices steps.now ≤ most_names }
-    ensures levels { IfOk result (λ rows. AreFound (S.vertices steps.now) (S.leads steps.now) sources.now most until
+    ensures levels { IfOk result (λ rows. AreFoundFor (S.vertices steps.now) (S.leads steps.now) sources.now most until
         (level_table (S.vertices steps.now) rows.items)) }
     ensures rows { IfOk result (λ rows. AreRows (S.vertices steps.now) rows.items) }
 {
@@ -146,7 +146,7 @@ pub(crate) fn search<S: Steps>(
 ) -> Result<Vec<(VertexId, u32)>, AllocError>
     requires sources { All (λ s. s < S.vertices steps.now) sources.now }
     requires until { IfSome until (λ t. t < S.vertices steps.now) }
-    ensures levels { IfOk result (λ rows. AreFound (S.vertices steps.now) (S.leads steps.now) sources.now most until
+    ensures levels { IfOk result (λ rows. AreFoundFor (S.vertices steps.now) (S.leads steps.now) sources.now most until
         (level_table (S.vertices steps.now) rows.items)) }
     ensures rows { IfOk result (λ rows. AreRows (S.vertices steps.now) rows.items) }
 {

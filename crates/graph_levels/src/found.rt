@@ -3,7 +3,7 @@
 ghost use Rattle.std.specs.Prelude.{◌≡◌, ◌<◌, ◌∷◌, [], None, Some, length, All, IfOk};
 ghost use Rattle.graph_types.specs.Analyses.{AreLevels};
 ghost use Rattle.graph_levels.specs.Reached.{TellLevels};
-ghost use Rattle.graph_levels.specs.Near.{AreFound, AreNear};
+ghost use Rattle.graph_levels.specs.Near.{AreFoundFor, AreNear};
 ghost use Rattle.graph_levels.specs.Reached.{AreRows, level_table, vertices_of};
 
 use crate::distances::search;
@@ -121,7 +121,7 @@ pub fn levels_up_to<S: Steps>(
 ) -> Result<Vec<Option<u32>>, AllocError>
     requires source { source.0 < S.vertices steps.now }
     requires target { target.0 < S.vertices steps.now }
-    ensures { IfOk result (λ levels. AreFound (S.vertices steps.now) (S.leads steps.now) (source.0 ∷ []) None (Some target.0) levels.items) }
+    ensures { IfOk result (λ levels. AreFoundFor (S.vertices steps.now) (S.leads steps.now) (source.0 ∷ []) None (Some target.0) levels.items) }
 {
     let rows = search(alloc, steps, &[source.0], None, Some(target.0))?;
     table(alloc, &rows, steps.vertex_count())

@@ -18,9 +18,9 @@ pub record IsPath (Step : ℕ → ℕ → Type 0) (a b : ℕ) (path : List ℕ) 
   pub least : (i u d : ℕ) → i + 1 < length path → Walk Step a u i → Step u (slice_index_or path (i + 1) d) → slice_index_or path i d ≤ u
 
 -- the path, or none where no walk leads there
-abbrev pub TellsPath : (ℕ → ℕ → Type 0) → ℕ → ℕ → Option (List ℕ) → Type 0
-TellsPath Step a b None = (n : ℕ) → Walk Step a b n → ⊥
-TellsPath Step a b (Some path) = IsPath Step a b path
+abbrev pub IsPathIfAny : (ℕ → ℕ → Type 0) → ℕ → ℕ → Option (List ℕ) → Type 0
+IsPathIfAny Step a b None = (n : ℕ) → Walk Step a b n → ⊥
+IsPathIfAny Step a b (Some path) = IsPath Step a b path
 
 -- steps the other way
 abbrev pub turned : (ℕ → ℕ → Type 0) → ℕ → ℕ → Type 0

@@ -5,7 +5,7 @@ ghost use Rattle.std.specs.List.{Contains};
 ghost use Rattle.std.specs.Option.{option_map};
 ghost use Rattle.graph_levels.specs.Near.{AreLevelsFrom};
 ghost use Rattle.graph_levels.specs.Search.{HasLevel};
-ghost use Rattle.graph_walks.specs.Paths.{IsLeastAt, IsPath, TellsPath, turned};
+ghost use Rattle.graph_walks.specs.Paths.{IsLeastAt, IsPath, IsPathIfAny, turned};
 ghost use Rattle.graph_types.specs.Analyses.{LeadsTo};
 ghost use Rattle.graph_version.specs.Versions.{content};
 
@@ -92,7 +92,7 @@ pub fn path(
 ) -> Result<Option<Vec<u32>>, AllocError>
     requires source { source.0 < length (content incoming.now).names }
     requires target { target.0 < length (content incoming.now).names }
-    ensures { IfOk result (λ path. TellsPath (LeadsTo filter.now (content incoming.now)) source.0 target.0
+    ensures { IfOk result (λ path. IsPathIfAny (LeadsTo filter.now (content incoming.now)) source.0 target.0
         (option_map (λ vertices. vertices.items) path)) }
 {
     let edges = VersionEdges {

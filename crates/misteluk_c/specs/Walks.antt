@@ -3,7 +3,7 @@ use Rattle.std.specs.Prelude.{◌≡◌, ◌==◌, ◌⊎◌, ℕ, List, if◌th
 use Rattle.graph_types.specs.{Graph.Graph, Analyses.{Joins, LeadsTo}, declared.ids.Filter.Filter}
 use Rattle.graph_version.specs.Versions.{VersionView, content}
 use Rattle.version_columns.specs.declared.views.View.{View}
-use Rattle.version_columns.specs.Nearby.{NearColumns, WritesWithin}
+use Rattle.version_columns.specs.{Nearby.{NearColumns, WritesWithin}, Paths.WritesPath}
 use Rattle.misteluk_c.specs.declared.walking.Direction.{Direction, TheVariants.{Along, Against, Either}}
 use Rattle.misteluk_c.specs.Held.{TellsCode}
 
@@ -21,3 +21,8 @@ step_by Either g f a b = Joins f g a b
 abbrev pub TellsWithin : Direction → VersionView → View → List ℕ → ℕ → NearColumns → NearColumns → ℕ → ℕ → Type 0
 TellsWithin direction v view sources steps old new count code =
     TellsCode code (WritesWithin v (step_by direction (content v)) view sources steps old new count) ⊎ ((code ≡ 1) × (new ≡ old))
+
+-- the vertices of a shortest walk; or as above
+abbrev pub TellsPath : VersionView → View → ℕ → ℕ → List ℕ → List ℕ → ℕ → ℕ → Type 0
+TellsPath v view source target old new count code =
+    TellsCode code (WritesPath v view source target old new count) ⊎ ((code ≡ 1) × (new ≡ old))

@@ -22,7 +22,7 @@ use crate::versions::{
     misteluk_version_kind_names, misteluk_version_labels, misteluk_version_levels,
     misteluk_version_names, misteluk_version_row, misteluk_version_size, misteluk_version_vertex,
 };
-use crate::walking::{misteluk_version_index, misteluk_version_within};
+use crate::walking::{misteluk_version_index, misteluk_version_path, misteluk_version_within};
 use desk_counts::Counts;
 use std::alloc::Global;
 use store_handles::Handle;
@@ -247,6 +247,7 @@ fn reach(alloc: Global, version: &mut Handle) -> u32 {
             &mut levels,
             &mut count,
         ),
+        misteluk_version_path(alloc, version, &EVERY, 0, 1, &mut vertices, &mut count),
     ];
     sum(&codes)
 }

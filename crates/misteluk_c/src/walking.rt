@@ -3,14 +3,14 @@
 ghost use Rattle.std.specs.Prelude.{◌≡◌, ◌⊎◌, Some, None, MatchOption};
 ghost use Rattle.version_columns.specs.Nearby.{near_columns};
 ghost use Rattle.misteluk_c.specs.Held.{held_version_of, Asks};
-ghost use Rattle.misteluk_c.specs.Walks.{TellsWithin};
+ghost use Rattle.misteluk_c.specs.Walks.{TellsPath, TellsWithin};
 ghost use Rattle.misteluk_c.specs.Walks as walks;
 
 use crate::codes::{BAD_NUMBER, NO_HANDLE, OK, columns_code};
 use crate::held::{indexed, version_in};
 use std::alloc::Global;
 use store_handles::{Handle, Held};
-use version_columns::{View, Ways, write_within};
+use version_columns::{View, Ways, write_path, write_within};
 
 /// Which way a step of a walk goes along an edge.
 #[derive(Clone, Copy)]
@@ -110,21 +110,88 @@ fn within(
     match direction {
         Direction::Along => match version_in(held) {
             Some(version) => columns_code(write_within(
-                alloc, &Ways::Along(version), view, sources, steps, vertices, levels, count,
+                alloc,
+                &Ways::Along(version),
+                view,
+                sources,
+                steps,
+                vertices,
+                levels,
+                count,
             )),
             None => NO_HANDLE,
         },
         Direction::Against => match indexed(alloc, held) {
             Ok(incoming) => columns_code(write_within(
-                alloc, &Ways::Against(&incoming), view, sources, steps, vertices, levels, count,
+                alloc,
+                &Ways::Against(&incoming),
+                view,
+                sources,
+                steps,
+                vertices,
+                levels,
+                count,
             )),
             Err(code) => code,
         },
         Direction::Either => match indexed(alloc, held) {
             Ok(incoming) => columns_code(write_within(
-                alloc, &Ways::EitherWay(&incoming), view, sources, steps, vertices, levels, count,
+                alloc,
+                &Ways::EitherWay(&incoming),
+                view,
+                sources,
+                steps,
+                vertices,
+                levels,
+                count,
             )),
             Err(code) => code,
         },
+    }
+}
+
+/// Writes the vertices of a shortest walk.
+#[unsafe(no_mangle)]
+pub extern "C" fn misteluk_version_path(
+    alloc: Global,
+    version: &mut Handle,
+    view: &View,
+    source: u32,
+    target: u32,
+    vertices: &mut [u32],
+    count: &mut u64,
+) -> u32
+    ensures same { held_version_of version.new.held ≡ held_version_of version.old.held }
+    ensures told { Asks (held_version_of version.old.held) result
+        (λ v. TellsPath v view.now source target vertices.old vertices.new count.new result) }
+    ensures none { held_version_of version.old.held ≡ None → (vertices.new ≡ vertices.old) × (count.new ≡ count.old) }
+{
+    let Some(mut held) = version.take(alloc) else {
+        return NO_HANDLE;
+    };
+    let code = path_to(alloc, &mut held, view, source, target, vertices, count);
+    version.put(held);
+    code
+}
+
+fn path_to(
+    alloc: Global,
+    held: &mut Held,
+    view: &View,
+    source: u32,
+    target: u32,
+    vertices: &mut [u32],
+    count: &mut u64,
+) -> u32
+    ensures same { held_version_of (Some held.new) ≡ held_version_of (Some held.old) }
+    ensures told { Asks (held_version_of (Some held.old)) result
+        (λ v. TellsPath v view.now source target vertices.old vertices.new count.new result) }
+    ensures none { held_version_of (Some held.old) ≡ None → (vertices.new ≡ vertices.old) × (count.new ≡ count.old) }
+{
+    match indexed(alloc, held) {
+        Ok(incoming) => columns_code(write_path(
+            alloc, &incoming, view, source, target, vertices, count,
+        )),
+        Err(code) => code,
     }
 }

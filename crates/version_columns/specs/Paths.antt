@@ -2,7 +2,7 @@
 use Rattle.std.specs.Prelude.{◌≡◌, ◌⊎◌, ◌&&◌, ◌<◌, ◌≤◌, ◌++◌, ℕ, List, length, drop, nat_lt, Bool, true, false, Option, Some, None, Result, Ok, Err}
 use Rattle.graph_types.specs.{Graph.Graph, Analyses.LeadsTo, declared.ids.Filter.Filter}
 use Rattle.graph_version.specs.Versions.{VersionView, content}
-use Rattle.graph_walks.specs.Paths.{IsPath, TellsPath}
+use Rattle.graph_walks.specs.Paths.{IsPath, IsPathIfAny}
 use Rattle.version_columns.specs.declared.views.{View.View, ColumnError.ColumnError}
 use Rattle.version_columns.specs.declared.views.ColumnError.TheVariants.{NoKind, NoVertex, BadLength, OutOfMemory}
 use Rattle.version_columns.specs.Views.{filter_of}
@@ -22,7 +22,7 @@ are_both g source target = nat_lt source (length g.names) && nat_lt target (leng
 abbrev pub WritesPathIn : Filter → Graph → ℕ → ℕ → List ℕ → List ℕ → ℕ → Result (Unit {0}) ColumnError → Type 0
 WritesPathIn f g source target old new count (Ok _) =
     (are_both g source target ≡ true)
-    × ((path : Option (List ℕ)) × TellsPath (LeadsTo f g) source target path × PutsPath old new count path)
+    × ((path : Option (List ℕ)) × IsPathIfAny (LeadsTo f g) source target path × PutsPath old new count path)
 WritesPathIn f g source target old new count (Err NoVertex) = (are_both g source target ≡ false) × (new ≡ old)
 WritesPathIn f g source target old new count (Err BadLength) =
     (are_both g source target ≡ true) × (new ≡ old)

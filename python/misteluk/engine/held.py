@@ -15,6 +15,7 @@ from .calling import Handles, Known, LibraryFlight, address, check, refusal_of, 
 from .guard import Guard, Notes, Owned
 from .interface import Code, Library
 from .protocol import WHOLE, Arrays, Denied, Ends, Marks, Scope
+from .walked import Walked
 from ..errors import NoSeat, SessionClosed
 from ..values.answers import Compacted
 from ..values.limits import Limits
@@ -88,7 +89,7 @@ class Kept:
         self.answers = Answers()
 
 
-class LibraryVersion:
+class LibraryVersion(Walked):
     """A version that is held. Each thread that asks takes a handle of its own: a copy of the first one, which is never asked.
     `_other` is the one whose hold it shares."""
 
@@ -258,26 +259,6 @@ class LibraryVersion:
         found = self._table("levels", "I", scope, self._vertex(source))[0]
         reached = [at for at, it in enumerate(found) if it != interface.NOT_REACHED]
         return reached, found if len(reached) == len(found) else array("I", map(found.__getitem__, reached))
-
-    def within(self, scope: Scope, source: str, steps: int, either: bool) -> "Tuple[array[int], array[int]]":
-        view, begin = self._view(scope), array("I", (self._vertex(source),))
-        way = self._index() if either else interface.ALONG
-        count, size, code = c_uint64(), min(self.count, FEW_NAMES), int(Code.BAD_LENGTH)
-        while code == Code.BAD_LENGTH:  # (where there is too little room, the call tells how much it needs)
-            vertices, levels = room("I", size), room("I", size)
-            code = self._ask(self._library.version_within, view, way, address(begin), 1, min(steps, interface.ANY_STEPS),
-                             address(vertices), size, address(levels), size, count)
-            size = count.value
-        check(code)
-        return vertices[:size], levels[:size]
-
-    def _index(self) -> int:
-        """Has each handle that is copied from now on know the edges by their targets. Those of before go."""
-        if not self.kept.is_indexed:
-            with self._known.lock:
-                check(self._library.version_index(self._first.raw))
-            self.kept.idle, self.kept.is_indexed = [], True
-        return interface.EITHER
 
     def edge(self, ends: Ends) -> Optional[Marks]:
         kind, source, target = ends

@@ -222,6 +222,7 @@ FUNCTIONS: Dict[str, Tuple[Any, List[Any]]] = {
     "version_index": (c_uint32, [POINTER(Version)]),
     "version_within": (c_uint32, [POINTER(Version), POINTER(View), c_uint32, c_void_p, c_size_t, c_uint32, c_void_p, c_size_t,
         c_void_p, c_size_t, POINTER(c_uint64)]),
+    "version_path": (c_uint32, [POINTER(Version), POINTER(View), c_uint32, c_uint32, c_void_p, c_size_t, POINTER(c_uint64)]),
     "version_labels": (c_uint32, [POINTER(Version), POINTER(View), c_void_p, c_size_t]),
     "version_cores": (c_uint32, [POINTER(Version), POINTER(View), c_void_p, c_size_t]),
     "version_row": (c_uint32, [POINTER(Version), POINTER(View), c_uint32, POINTER(EdgeColumns), POINTER(c_uint64)]),
@@ -272,6 +273,7 @@ class Library:
     version_levels: Callable[[Version, View, int, Memory, int], int]
     version_index: Callable[[Version], int]
     version_within: Callable[[Version, View, int, Memory, int, int, Memory, int, Memory, int, c_uint64], int]
+    version_path: Callable[[Version, View, int, int, Memory, int, c_uint64], int]
     version_labels: Callable[[Version, View, Memory, int], int]
     version_cores: Callable[[Version, View, Memory, int], int]
     version_row: Callable[[Version, View, int, EdgeColumns, c_uint64], int]

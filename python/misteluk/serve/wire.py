@@ -75,7 +75,8 @@ def asked(held: Held, call: str, given: Mapping[str, Any], named: "Named") -> It
         raise ValueError(f"a version isn't asked for {call!r}")
     scope = _scope(given)
     of_name = [_text(given.get("name"))] if CALLS[call] else []
-    more = [_steps(given.get("steps")), given.get("either") is True] if call == "within" else []
+    more: Any = {"within": lambda: (_steps(given.get("steps")), given.get("either") is True),
+                 "path": lambda: (_text(given.get("target")),)}.get(call, tuple)()
     told: Any = getattr(held, call)(scope, *of_name, *more)
     if call == "levels":
         told = array("I", told[0]), told[1]
@@ -101,8 +102,8 @@ def is_of_all(given: Mapping[str, Any]) -> bool:
 
 
 # The calls that give columns, and whether they are of a name.
-CALLS = {"degrees": False, "labels": False, "cores": False, "edges": False, "levels": True, "within": True, "out_of": True,
-         "into": True}
+CALLS = {"degrees": False, "labels": False, "cores": False, "edges": False, "levels": True, "within": True, "path": True,
+         "out_of": True, "into": True}
 
 
 def _scope(given: Mapping[str, Any]) -> Scope:
