@@ -82,7 +82,7 @@ class Hostile(unittest.TestCase):
             it.version_names(none, 0, where, 1, where, 1), it.version_kind_names(none, 0, where, 1, where, 1),
             it.version_edge(none, 0, 0, 0, interface.Edge()), it.version_path(none, view(), 0, 0, where, 1, number),
             it.version_degrees(none, view(), *[where, 1] * 3), it.version_levels(none, view(), 0, where, 1),
-            *(call(none, view(), where, 1) for call in (it.version_labels, it.version_cores)), it.version_index(none),
+            it.version_labels(none, view(), where, 1), it.version_cores(none, view(), where, 1), it.version_index(none),
             it.version_within(none, view(), 2, where, 1, 1, *[where, 1] * 2, number),
             it.version_row(none, view(), 0, into, number), it.version_edges(none, view(), few, into, number),
         ]
