@@ -45,7 +45,8 @@ enum {
     MISTELUK_BAD_NAME = 5,      /* a name is 1 to 64 bytes, each from 0x21 to 0x7E; a kind's is not "*" */
     MISTELUK_BAD_WEIGHT = 6,    /* a weight is at most 2^40 in size */
     MISTELUK_BAD_TIME = 7,      /* a time is below 2^63 */
-    MISTELUK_BAD_NUMBER = 8,    /* an index past its dictionary, ends that fall or leave their text, or no sort of operation */
+    MISTELUK_BAD_NUMBER = 8,    /* an index past its dictionary, ends that fall or leave their text, or no sort of operation
+                                 * or direction */
     MISTELUK_BAD_BLOCKS = 9,    /* a desk has at least 16 blocks, and at most 65,536, or 4,293,918,719 under limits of its own */
     MISTELUK_BATCH_FULL = 10,   /* the batch has 4,096 operations or more: only columns within a limit append to it */
     MISTELUK_BATCHES_FULL = 11, /* as many batches as the desk's limits allow were accepted since it opened or was rebased */
@@ -64,6 +65,13 @@ enum {
 /* What stands for "any kind" where a kind's number is asked for, and for "not reached" among levels. */
 #define MISTELUK_ANY_KIND UINT32_MAX
 #define MISTELUK_NOT_REACHED UINT32_MAX
+
+/* Which way a step of a walk goes along an edge: from source to target, from target to source, or either way. And any number of
+ * steps. */
+#define MISTELUK_ALONG 0
+#define MISTELUK_AGAINST 1
+#define MISTELUK_EITHER 2
+#define MISTELUK_ANY_STEPS UINT32_MAX
 
 /* The sorts of operations, where these are a column. */
 #define MISTELUK_INSERT 0
@@ -303,6 +311,24 @@ uint32_t misteluk_version_degrees(misteluk_version *version, const misteluk_view
  * NO_HANDLE, NO_KIND, NO_VERTEX, BAD_LENGTH, MEMORY. */
 uint32_t misteluk_version_levels(misteluk_version *version, const misteluk_view *view, uint32_t source, uint32_t *levels,
     size_t levels_length);
+/* Puts the edges of a version in the order of their targets, too, and keeps that with the handle and with each that is cloned from
+ * it then: 40 bytes an edge. A call that goes against edges does it, where it hasn't been done. NO_HANDLE, MEMORY. */
+uint32_t misteluk_version_index(misteluk_version *version);
+/* Writes the vertices to which a walk of at most so many steps over edges of the view leads from any of the sources, each with the
+ * least number of steps, in number order. A source has 0, and may stand more than once. `count` tells how many there are; where
+ * the columns have fewer places nothing is written and the code is BAD_LENGTH, with `count` told. It takes time and memory by the
+ * vertices that it reaches and their edges, but for a bit for each vertex, and for misteluk_version_index in the directions that
+ * need it. BAD_NUMBER where there is no such direction, NO_HANDLE, NO_KIND, NO_VERTEX, BAD_LENGTH where the columns differ or are
+ * too short; or MEMORY. */
+uint32_t misteluk_version_within(misteluk_version *version, const misteluk_view *view, uint32_t direction, const uint32_t *sources,
+    size_t sources_length, uint32_t steps, uint32_t *vertices, size_t vertices_length, uint32_t *levels, size_t levels_length,
+    uint64_t *count);
+/* Writes the vertices of a walk along edges of the view from the source to the target, with both, of which none has fewer: from the
+ * target on, each is the least vertex that can stand there. `count` tells how many they are, 0 where no walk leads there; where
+ * there are fewer places nothing is written and the code is BAD_LENGTH, with `count` told. It needs misteluk_version_index.
+ * NO_HANDLE, NO_KIND, NO_VERTEX, BAD_LENGTH, MEMORY. */
+uint32_t misteluk_version_path(misteluk_version *version, const misteluk_view *view, uint32_t source, uint32_t target,
+    uint32_t *vertices, size_t vertices_length, uint64_t *count);
 /* For each vertex: the least number of a vertex that edges of the view join it to, whatever their direction.
  * NO_HANDLE, NO_KIND, BAD_LENGTH, MEMORY. */
 uint32_t misteluk_version_labels(misteluk_version *version, const misteluk_view *view, uint32_t *labels, size_t labels_length);

@@ -138,7 +138,10 @@ class Session(Generic[W, T]):
         """
         scope, asked = self._scope("levels", kind, since, until, source)
         name = self._terms.asked(source)
-        reached, levels = self._asked(self._held.levels, asked, scope, name)
+        return self._near(asked, *self._asked(self._held.levels, asked, scope, name))
+
+    def _near(self, asked: Called, reached: Sequence[int], levels: "array[int]") -> Answer[int]:
+        """The vertices that are reached, by number, with their levels."""
         names = self._all_names()
         names = names if len(reached) == len(names) else tuple(map(names.__getitem__, reached))
         return self._answer("level", asked, {"level": Values(levels)}, names)
@@ -377,22 +380,21 @@ class Session(Generic[W, T]):
 
     def path(self, source: str, target: str, kind: Optional[str] = None, since: Moment = 0, until: Moment = LAST, *,
              edges: bool = False) -> Any:
-        """Returns the names on a walk with the fewest edges from source to target, both included, or `None` if there is none.
-        With `edges=True` it returns the edges, (kind, source, target, `Edge`) each, one of them where several kinds join two
-        names.
+        """Returns the names on a walk with the fewest edges from source to target, both included, or `None` if there is none. Of
+        several it is the one that has, from the target on, the first vertex in the version's order each time. With `edges=True`
+        it returns the edges, (kind, source, target, `Edge`) each, the first one where several kinds join two names.
 
         >>> session.path("kassel", "bonn", kind="road")
         ['kassel', 'fulda', 'hanau', 'bonn']
         """
-        scope, asked = self._scope("path", kind, since, until, target)
-        levels = self.levels(source, kind, since, until)
-        if target not in levels:
-            self._asked(self._held.levels, asked, scope, self._terms.asked(target))
-            return None
-        walk = walks.back(self, levels, target, kind, since, until)
-        if edges:
-            return walk
-        return [source, *(it[2] for it in walk)]
+        self._scope("path", kind, since, until, target)
+        scope, asked = self._scope("path", kind, since, until, source, target)
+        names = self._all_names()
+        found = self._asked(self._held.path, asked, scope, self._terms.asked(source), self._terms.asked(target))
+        walk = list(map(names.__getitem__, found))
+        if edges and walk:
+            return [walks.step(self.out_edges(begin, kind, since, until), end) for begin, end in zip(walk, walk[1:])]
+        return walk or None
 
     def neighborhood(self, vertex: str, hops: int, kind: Optional[str] = None, since: Moment = 0, until: Moment = LAST, *,
                      directed: bool = True) -> Answer[int]:
@@ -404,13 +406,9 @@ class Session(Generic[W, T]):
         """
         if operator.index(hops) < 0:
             raise ValueError(f"hops is 0 or more, and not {hops}")
-        if directed:
-            levels = self.levels(vertex, kind, since, until)
-            near = {name: level for name, level in levels.items() if level <= hops}
-        else:
-            near = walks.reached(self, vertex, hops, kind, since, until)
-        asked = self._scope(f"neighborhood {hops} of", kind, since, until, vertex)[1]
-        return self._answer("level", asked, {"level": Values(array("I", near.values()))}, list(near))
+        scope, asked = self._scope(f"neighborhood {hops} of", kind, since, until, vertex)
+        found = self._asked(self._held.within, asked, scope, self._terms.asked(vertex), hops, not directed)
+        return self._near(asked, *found)
 
     # What it is, and its end.
 

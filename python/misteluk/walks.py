@@ -1,49 +1,20 @@
-"""Walks in a held version, by the edges at one vertex after another."""
+"""The edges at a vertex, by their other ends."""
 from __future__ import annotations
 
 from operator import add
-from typing import TYPE_CHECKING, Any, Dict, List, Mapping, Optional
+from typing import Any, Dict
 
 from .errors import StoreError
 from .values.answers import Edge
 from .values.edges import Edges, Told
-from .values.units import Moment
-
-if TYPE_CHECKING:
-    from .session import Session
 
 
-def back(session: "Session[Any, Any]", levels: Mapping[str, int], target: str, kind: Optional[str], since: Moment,
-         until: Moment) -> List[Told[Any, Any]]:
-    """The edges of a shortest walk to the target, from where the levels begin."""
-    walk: List[Told[Any, Any]] = []
-    at = target
-    while levels[at] > 0:
-        for step in session.in_edges(at, kind, since, until):
-            if levels.get(step[1]) == levels[at] - 1:
-                break
-        else:
-            raise StoreError(f"no edge leads to {at!r} from where it was reached")
-        walk.append(step)
-        at = step[1]
-    return walk[::-1]
-
-
-def reached(session: "Session[Any, Any]", vertex: str, hops: int, kind: Optional[str], since: Moment,
-            until: Moment) -> Dict[str, int]:
-    """The vertices that are reached in at most so many steps along edges either way, and in how many."""
-    near, front = {vertex: 0}, [vertex]
-    session.out_edges(vertex, kind, since, until)  # (raises where the version doesn't have the vertex or the kind)
-    for hop in range(1, hops + 1):
-        found: Dict[str, None] = {}
-        for name in front:
-            found.update(dict.fromkeys(it[2] for it in session.out_edges(name, kind, since, until)))
-            found.update(dict.fromkeys(it[1] for it in session.in_edges(name, kind, since, until)))
-        front = [it for it in found if it not in near]
-        if not front:
-            break
-        near.update(dict.fromkeys(front, hop))
-    return near
+def step(edges: Edges[Any, Any], end: str) -> Told[Any, Any]:
+    """The first of the edges out of a vertex that leads to another one, which is known to be there."""
+    for it in edges:
+        if it[2] == end:
+            return it
+    raise StoreError(f"no edge leads to {end!r} from where it was reached")
 
 
 def summed(edges: Edges[Any, Any], end: int) -> Dict[str, Edge[Any, Any]]:

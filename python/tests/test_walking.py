@@ -9,6 +9,7 @@ from support import Case, optional
 
 import misteluk
 from misteluk import Edge, Neighbor, Session
+from misteluk.engine.held import LibraryVersion
 from misteluk.engine.protocol import Arrays
 from misteluk.values import records
 
@@ -34,9 +35,13 @@ def reached(view, name, either_way=False):
     return found
 
 
-def steps_of(view, walk):
-    """Whether each step of a walk is an edge."""
-    return all(pair in {it[1:] for it, _ in view} for pair in zip(walk, walk[1:]))
+def walk_to(view, levels, names, end):
+    """The shortest walk that has, from its end on, the first name each time; `None` where there is none."""
+    walk = [end] if end in levels else None
+    while walk and levels[walk[0]]:
+        near = {it[1] for it, _ in view if it[2] == walk[0] and levels.get(it[1]) == levels[walk[0]] - 1}
+        walk.insert(0, next(it for it in names if it in near))
+    return walk
 
 
 def of_vertex(session, graph, name, window, hops):
@@ -55,10 +60,12 @@ def of_vertex(session, graph, name, window, hops):
         "within either way": session.neighborhood(name, hops, *window, directed=False), "in": session.has_vertex(name)}
     differ = [it for it in wanted if found[it] != wanted[it]]
     for other in graph.names:
-        walk = session.path(name, other, *window)
-        is_right = walk is None if other not in levels else (
-            walk is not None and (walk[0], walk[-1], len(walk)) == (name, other, levels[other] + 1) and steps_of(view, walk))
-        differ += [] if is_right else ["path"]
+        walk, wanted = session.path(name, other, *window), walk_to(view, levels, list(graph.names), other)
+        differ += [] if walk == wanted else ["path"]
+        steps = session.path(name, other, *window, edges=True)
+        pairs = None if steps is None else [it[1:3] for it in steps]
+        differ += [] if pairs == (None if wanted is None else list(zip(wanted, wanted[1:]))) else ["edges of a path"]
+        differ += [] if all((it[:3], it[3]) in view for it in map(tuple, steps or ())) else ["edges of a path"]
     return differ
 
 
@@ -152,9 +159,11 @@ class Walks(Case):
         self.planted("path", Session, "path", lambda walk: None)
         self.planted("edges", Session, "edges", lambda found: [(*ends, edge._replace(first=0)) for *ends, edge in found])
         self.planted("in", Session, "has_edge", lambda found: True)
-        self.planted("within either way", Session, "out_edges", lambda found: found[:0])
+        self.planted("within either way", LibraryVersion, "within", lambda found: (found[0][1:], found[1][1:]))
         self.planted("edges", Arrays, "places", lambda found: found[1:])
-        self.planted("no step of a path", Session, "in_edges", lambda found: found[:0])
+        self.planted("path", LibraryVersion, "path", lambda found: found[:1])
+        self.planted("edges of a path", Session, "path", lambda walk: walk and walk[:-1])
+        self.planted("no step of a path", Session, "out_edges", lambda found: found[:0])
         if networkx:
             self.planted("to_networkx", Session, "to_networkx", lambda it: it.reverse(), beside=self.beside_networkx)
 

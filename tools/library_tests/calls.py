@@ -193,6 +193,36 @@ class Version(Owner):
         must(self.library.version_cores(self.handle, seen, at(out), self.size.vertices))
         return list(out)[:self.size.vertices]
 
+    def index(self) -> None:
+        must(self.library.version_index(self.handle))
+
+    def within(self, seen: interface.View, direction: int, sources: Sequence[int], steps: int) -> List[Tuple[int, int]]:
+        """The vertices that walks reach from the sources, with their levels, in columns that are as long as they have to be: the
+        length is asked for with none."""
+        begin, count, size = array.array("I", sources or [0]), c_uint64(), 0
+        code, table = Code.BAD_LENGTH, [column("I", 0), column("I", 0)]
+        while code == Code.BAD_LENGTH:
+            words = [it for each in table for it in (at(each), size)]
+            code = Code(self.calls.version_within(self.handle, seen, direction, at(begin), len(sources), steps, *words, count))
+            if code == Code.BAD_LENGTH:
+                assert count.value > size and not any(map(any, table))
+                size = count.value
+                table = [column("I", size), column("I", size)]
+        must(code)
+        return list(zip(*table))[:count.value]
+
+    def path(self, seen: interface.View, source: int, target: int) -> List[int]:
+        """The vertices of a shortest walk, in a column that is as long as it has to be; none where there is no walk."""
+        count, size, code, found = c_uint64(), 0, Code.BAD_LENGTH, column("I", 0)
+        while code == Code.BAD_LENGTH:
+            code = Code(self.library.version_path(self.handle, seen, source, target, at(found), size, count))
+            if code == Code.BAD_LENGTH:
+                assert count.value > size and not any(found)
+                size = count.value
+                found = column("I", size)
+        must(code)
+        return list(found)[:count.value]
+
     def row(self, seen: interface.View, source: int) -> List[Row]:
         """One source's edges, in columns that are as long as they have to be: the length is asked for with none."""
         none, count = [column("Q", 0)] * 6, c_uint64()

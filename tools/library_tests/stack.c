@@ -72,6 +72,13 @@ static void degrees(void) { code = misteluk_version_degrees(&version, &every, ki
 static void levels(void) { code = misteluk_version_levels(&version, &every, 0, kinds, VERTICES); }
 static void labels(void) { code = misteluk_version_labels(&version, &every, kinds, VERTICES); }
 static void cores(void) { code = misteluk_version_cores(&version, &every, kinds, VERTICES); }
+static void index_of(void) { code = misteluk_version_index(&version); }
+static void within(void)
+{
+    code = misteluk_version_within(&version, &every, MISTELUK_EITHER, (const uint32_t[]){0, 1}, 2, MISTELUK_ANY_STEPS, sources,
+        VERTICES, targets, VERTICES, &number);
+}
+static void path(void) { code = misteluk_version_path(&version, &every, 0, 1, kinds, VERTICES, &number); }
 static misteluk_edge_columns into = {sizeof into, kinds, VERTICES, sources, VERTICES, targets, VERTICES, weights, VERTICES, ends,
     VERTICES, times, VERTICES};
 static void row(void) { code = misteluk_version_row(&version, &every, 0, &into, &number); }
@@ -177,6 +184,9 @@ int main(void)
     measure("version_levels", levels);
     measure("version_labels", labels);
     measure("version_cores", cores);
+    measure("version_index", index_of);
+    measure("version_within", within);
+    measure("version_path", path);
     edges();
     measure("version_row", row);
     code = 0; /* (the columns are too short for all edges, and then the call tells how far it came) */

@@ -80,9 +80,10 @@ class Hostile(unittest.TestCase):
             it.version_clone(none, interface.Version()), it.version_size(none, interface.Size()),
             it.version_vertex(none, *name, few), it.version_kind(none, *name, few),
             it.version_names(none, 0, where, 1, where, 1), it.version_kind_names(none, 0, where, 1, where, 1),
-            it.version_edge(none, 0, 0, 0, interface.Edge()),
+            it.version_edge(none, 0, 0, 0, interface.Edge()), it.version_path(none, view(), 0, 0, where, 1, number),
             it.version_degrees(none, view(), *[where, 1] * 3), it.version_levels(none, view(), 0, where, 1),
-            it.version_labels(none, view(), where, 1), it.version_cores(none, view(), where, 1),
+            it.version_labels(none, view(), where, 1), it.version_cores(none, view(), where, 1), it.version_index(none),
+            it.version_within(none, view(), 2, where, 1, 1, *[where, 1] * 2, number),
             it.version_row(none, view(), 0, into, number), it.version_edges(none, view(), few, into, number),
         ]
         self.assertEqual(codes, [Code.NO_HANDLE] * len(codes))

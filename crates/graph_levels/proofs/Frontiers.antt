@@ -5,35 +5,35 @@ use Rattle.std.proofs.lemmas.{Bool.cases_lt, Option.get_or_from_slice_get, List.
 use Rattle.std.proofs.lemmas.List.{length-append, length-replicate, get_or-replicate, Elements.{All-tail, All-weaker, All-push}}
 use Rattle.std.proofs.lemmas.List.Elements.{All-nil, All-cons, Contains-push, Contains-append_left, All-contains}
 use Rattle.std.{specs.{Prelude.{All, replicate}, List.Contains}, proofs.lemmas.Grind.common_steps}
-use Rattle.graph_types.specs.{Graph.Graph, Analyses.{LeadsTo, Walk, IsLevel, IsTable}, declared.ids.Filter.Filter}
+use Rattle.graph_types.specs.Analyses.{Walk}
 use Rattle.graph_types.{specs.declared.ids.VertexId.VertexId, proofs.Counts.{Contains-cons_cases, Contains-nil}}
 use Rattle.graph_types.proofs.Prefixes.{front_long}
 use Rattle.graph_levels.specs.Search.{is_unreached, level_of, HasLevel, IsReachedWithin, IsSearch}
 use Rattle.graph_levels.specs.Reached.{met, stands_in, level_table, vertices_of}
 use Rattle.graph_levels.proofs.Tables.{asked, length-table, levelled, table_push, vertices_push}
 
-none_of : (o : Option ℕ) → is_unreached o ≡ true → o ≡ None
+pub none_of : (o : Option ℕ) → is_unreached o ≡ true → o ≡ None
 none_of o h = grind (arith, common_steps)
 
-some_of : (o : Option ℕ) → is_unreached o ≡ false → (j : ℕ) × (o ≡ Some j)
+pub some_of : (o : Option ℕ) → is_unreached o ≡ false → (j : ℕ) × (o ≡ Some j)
 some_of o h = grind (arith, common_steps)
 
-same_level : (levels : List (Option ℕ)) (v j k : ℕ) → HasLevel levels j v → HasLevel levels k v → j ≡ k
+pub same_level : (levels : List (Option ℕ)) (v j k : ℕ) → HasLevel levels j v → HasLevel levels k v → j ≡ k
 same_level levels v j k p q = let both = sym p ∙ q in cc
 
 -- where there is no level
 abbrev no_level : Option ℕ
 no_level = None
 
-module _ (f : Filter) (g : Graph) (s : ℕ) where
+module _ (Step : ℕ → ℕ → Type 0) (sources : List ℕ) where
   -- a vertex with no level gets one
   kept : (levels : List (Option ℕ)) (v d : ℕ) → level_of levels v ≡ None → (w k : ℕ) → HasLevel levels k w
       → HasLevel (set levels v (Some d)) k w
   kept levels v d none w k h = grind (arith, common_steps, cases_eq, get_or-set_other)
 
-  mark : (levels : List (Option ℕ)) (rest next : List ℕ) (d u v : ℕ) → IsSearch f g s levels rest next d → HasLevel levels d u
-      → LeadsTo f g u v → v < length levels → level_of levels v ≡ None
-      → IsSearch f g s (set levels v (Some (d + 1))) rest (next ++ v ∷ []) d
+  mark : (levels : List (Option ℕ)) (rest next : List ℕ) (d u v : ℕ) → IsSearch Step sources levels rest next d → HasLevel levels d u
+      → Step u v → v < length levels → level_of levels v ≡ None
+      → IsSearch Step sources (set levels v (Some (d + 1))) rest (next ++ v ∷ []) d
   mark levels rest next d u v i at edge lt none =
       let new = set levels v (Some (d + 1)) in
       let here : HasLevel new (d + 1) v = get_or-set_same levels v (Some (d + 1)) None lt in
@@ -43,11 +43,12 @@ module _ (f : Filter) (g : Graph) (s : ℕ) where
       let is_next : (w k : ℕ) → HasLevel new k w → w ≡ v → k ≡ d + 1 =
       λ w k h e. same_level new v k (d + 1) (ap (level_of new) (sym e) ∙ h) here in
       record {
-        start = keep s 0 i.start;
+        start = All-weaker (HasLevel levels 0) (HasLevel new 0) (λ w h. keep w 0 h) sources i.start;
         sound = λ w k h. elim (cases_eq w v) [
           | inl e ↦
               let deep : suc d ≡ k = (let n = is_next w k h e in omega arith) in
-              subst (Walk (LeadsTo f g) s w) deep (u, i.sound u d at, subst (LeadsTo f g u) (sym e) edge)
+              let from = i.sound u d at in
+              (from.0, from.1, subst (Walk Step from.0 w) deep (u, from.2, subst (Step u) (sym e) edge))
           | inr ne ↦ i.sound w k (back w k h ne)
         ];
         low = λ w k h. elim (cases_eq w v) [
@@ -70,18 +71,18 @@ module _ (f : Filter) (g : Graph) (s : ℕ) where
   -- what visiting targets of u leaves, where n vertices are there and the next frontier stands behind the first m rows
   pub record Visited (n : ℕ) (rows : List (VertexId × ℕ)) (rest : List ℕ) (m d : ℕ) (ts : List ℕ)
       (new : List (VertexId × ℕ)) : Type 0 where
-    pub search : IsSearch f g s (level_table n new) rest (vertices_of (drop m new)) d
+    pub search : IsSearch Step sources (level_table n new) rest (vertices_of (drop m new)) d
     pub reached : All (IsReachedWithin (level_table n new) (d + 1)) ts
     pub keep : (w k : ℕ) → HasLevel (level_table n rows) k w → HasLevel (level_table n new) k w
 
   pub visit_all : (n : ℕ) (ts : List ℕ) (rows : List (VertexId × ℕ)) (rest : List ℕ) (m d u : ℕ)
-      → IsSearch f g s (level_table n rows) rest (vertices_of (drop m rows)) d → HasLevel (level_table n rows) d u → m ≤ length rows
-      → All (LeadsTo f g u) ts → All (λ v. v < n) ts → Visited n rows rest m d ts (met (d + 1) ts rows)
+      → IsSearch Step sources (level_table n rows) rest (vertices_of (drop m rows)) d → HasLevel (level_table n rows) d u → m ≤ length rows
+      → All (Step u) ts → All (λ v. v < n) ts → Visited n rows rest m d ts (met (d + 1) ts rows)
   visit_all n [] rows rest m d u i at long edges in' = grind (arith, common_steps, All-nil)
   visit_all n (v ∷ ts) rows rest m d u i at long edges in' =
       let lt : v < n = in' 0 0 (omega arith) in
-      let edge : LeadsTo f g u v = edges 0 0 (omega arith) in
-      let others = All-tail (LeadsTo f g u) v ts edges in
+      let edge : Step u v = edges 0 0 (omega arith) in
+      let others = All-tail (Step u) v ts edges in
       let rest_in = All-tail (λ w. w < n) v ts in' in
       let levels = level_table n rows in
       let new : List (VertexId × ℕ) = rows ++ (record { 0 = v }, d + 1) ∷ [] in
@@ -93,9 +94,9 @@ module _ (f : Filter) (g : Graph) (s : ℕ) where
       let here : HasLevel (level_table n new) (d + 1) v =
       subst (λ t. HasLevel t (d + 1) v) (sym (table_push n rows v (d + 1)))
       (get_or-set_same levels v (Some (d + 1)) None below) in
-      let next : IsSearch f g s (level_table n new) rest (vertices_of (drop m new)) d =
-      subst (λ t. IsSearch f g s t rest (vertices_of (drop m new)) d) (sym (table_push n rows v (d + 1)))
-      (subst (λ vs. IsSearch f g s (set levels v (Some (d + 1))) rest vs d) (sym (vertices_push m rows v (d + 1) long))
+      let next : IsSearch Step sources (level_table n new) rest (vertices_of (drop m new)) d =
+      subst (λ t. IsSearch Step sources t rest (vertices_of (drop m new)) d) (sym (table_push n rows v (d + 1)))
+      (subst (λ vs. IsSearch Step sources (set levels v (Some (d + 1))) rest vs d) (sym (vertices_push m rows v (d + 1) long))
       (mark levels rest (vertices_of (drop m rows)) d u v i at edge below none)) in
       let r = visit_all n ts new rest m d u next (keep u d at) (omega (arith, long, length-append rows ((record { 0 = v }, d + 1) ∷ [])))
       others rest_in in
@@ -121,8 +122,8 @@ module _ (f : Filter) (g : Graph) (s : ℕ) where
       choose (stands_in v rows) refl
 
   -- a vertex whose targets are all reached is done
-  pub done : (levels : List (Option ℕ)) (u : ℕ) (rest next : List ℕ) (d : ℕ) → IsSearch f g s levels (u ∷ rest) next d
-      → ((v : ℕ) → LeadsTo f g u v → IsReachedWithin levels (d + 1) v) → IsSearch f g s levels rest next d
+  pub done : (levels : List (Option ℕ)) (u : ℕ) (rest next : List ℕ) (d : ℕ) → IsSearch Step sources levels (u ∷ rest) next d
+      → ((v : ℕ) → Step u v → IsReachedWithin levels (d + 1) v) → IsSearch Step sources levels rest next d
   done levels u rest next d i all = record {
     start = i.start;
     sound = i.sound;
@@ -133,7 +134,7 @@ module _ (f : Filter) (g : Graph) (s : ℕ) where
       | inl r ↦ inl r
       | inr (inl c) ↦ elim (Contains-cons_cases u rest a c) [
         | inl e ↦
-            let r = all b (subst (λ x. LeadsTo f g x b) (sym e) to) in
+            let r = all b (subst (λ x. Step x b) (sym e) to) in
             let at : HasLevel levels d u = i.now 0 0 (omega arith) in
             let same = same_level levels u k d (ap (level_of levels) e ∙ h) at in
             let le = r.2 in
@@ -147,22 +148,22 @@ module _ (f : Filter) (g : Graph) (s : ℕ) where
   -- a row of the frontier is asked
   pub step : (n d k : ℕ) (ts : List ℕ) (old rows : List (VertexId × ℕ)) (row : VertexId × ℕ)
       → rows ≡ old ++ drop (length old) rows → k < length old → row ≡ get_or rows k row
-      → All (LeadsTo f g row.0.0) ts → All (λ v. v < n) ts → ((b : ℕ) → LeadsTo f g row.0.0 b → Contains ts b)
-      → IsSearch f g s (level_table n rows) (vertices_of (drop k old)) (vertices_of (drop (length old) rows)) d
-      → IsSearch f g s (level_table n (met (d + 1) ts rows)) (vertices_of (drop (k + 1) old))
+      → All (Step row.0.0) ts → All (λ v. v < n) ts → ((b : ℕ) → Step row.0.0 b → Contains ts b)
+      → IsSearch Step sources (level_table n rows) (vertices_of (drop k old)) (vertices_of (drop (length old) rows)) d
+      → IsSearch Step sources (level_table n (met (d + 1) ts rows)) (vertices_of (drop (k + 1) old))
       (vertices_of (drop (length old) (met (d + 1) ts rows))) d
   step n d k ts old rows row front lt is edges in' each i =
       let u = row.0.0 in
       let rest = vertices_of (drop (k + 1) old) in
-      let at : IsSearch f g s (level_table n rows) (u ∷ rest) (vertices_of (drop (length old) rows)) d =
-      subst (λ vs. IsSearch f g s (level_table n rows) vs (vertices_of (drop (length old) rows)) d) (asked old rows k row front lt is) i in
+      let at : IsSearch Step sources (level_table n rows) (u ∷ rest) (vertices_of (drop (length old) rows)) d =
+      subst (λ vs. IsSearch Step sources (level_table n rows) vs (vertices_of (drop (length old) rows)) d) (asked old rows k row front lt is) i in
       let r = visit_all n ts rows (u ∷ rest) (length old) d u at (at.now 0 0 (omega arith)) (front_long old rows front) edges in' in
       done (level_table n (met (d + 1) ts rows)) u rest (vertices_of (drop (length old) (met (d + 1) ts rows))) d r.search
       (λ b edge. All-contains (IsReachedWithin (level_table n (met (d + 1) ts rows)) (d + 1)) ts b r.reached (each b edge))
 
   -- the next frontier becomes the frontier
-  pub deeper : (levels : List (Option ℕ)) (next : List ℕ) (d : ℕ) → IsSearch f g s levels [] next d
-      → IsSearch f g s levels next [] (d + 1)
+  pub deeper : (levels : List (Option ℕ)) (next : List ℕ) (d : ℕ) → IsSearch Step sources levels [] next d
+      → IsSearch Step sources levels next [] (d + 1)
   deeper levels next d i = record {
     start = i.start;
     sound = i.sound;
@@ -175,62 +176,3 @@ module _ (f : Filter) (g : Graph) (s : ℕ) where
       | inr (inr c) ↦ inr (inl c)
     ];
   }
-
-  module _ (levels : List (Option ℕ)) (start : HasLevel levels 0 s)
-      (sound : (v k : ℕ) → HasLevel levels k v → Walk (LeadsTo f g) s v k)
-      (closed : (u v k : ℕ) → HasLevel levels k u → LeadsTo f g u v → IsReachedWithin levels (k + 1) v) where
-    reached : (m v : ℕ) → Walk (LeadsTo f g) s v m → IsReachedWithin levels m v
-    reached zero v w = (0, ap (level_of levels) (sym w) ∙ start, omega arith)
-    reached (suc m) v w =
-        let before = reached m w.0 w.1 in
-        let here = closed w.0 v before.0 before.1 w.2 in
-        let a = before.2 in
-        let b = here.2 in
-        (here.0, here.1, omega arith)
-
-    pub level_at : (v : ℕ) (o : Option ℕ) → level_of levels v ≡ o → IsLevel f g s v o
-    level_at v o is = grind (arith, common_steps, reached, same_level)
-
-  -- with no frontier left all levels are found
-  pub found : (levels : List (Option ℕ)) (n d : ℕ) → length levels ≡ n → IsSearch f g s levels [] [] d
-      → IsTable n (IsLevel f g s) levels
-  found levels n d long i =
-      let closed : (u v k : ℕ) → HasLevel levels k u → LeadsTo f g u v → IsReachedWithin levels (k + 1) v =
-      λ u v k h to. elim (i.closed u v k h to) [
-        | inl r ↦ r
-        | inr (inl c) ↦ absurd (Contains-nil u c)
-        | inr (inr c) ↦ absurd (Contains-nil u c)
-      ] in
-      record {
-        one_each = long;
-        each = λ v x is. level_at levels i.start i.sound closed v x (get_or_from_slice_get levels v x None is);
-      }
-
-  only : (n v k : ℕ) → s < n → HasLevel (set (replicate n None) s (Some 0)) k v → (v ≡ s) × (k ≡ 0)
-  only n v k lt h =
-      let long = length-replicate n no_level in
-      let in' : s < length (replicate n no_level) = omega arith in
-      elim (cases_eq v s) [
-        | inl e ↦
-            let at : HasLevel (set (replicate n None) s (Some 0)) 0 s =
-            get_or-set_same (replicate n None) s (Some 0) None in' in (
-              e,
-              same_level (set (replicate n None) s (Some 0)) s k 0
-                  (ap (level_of (set (replicate n None) s (Some 0))) (sym e) ∙ h) at,
-            )
-        | inr ne ↦
-            let none : level_of (replicate n None) v ≡ None = elim (cases_lt v n) [
-              | inl l ↦ get_or-replicate n v None None l
-              | inr ge ↦ get_or_past (replicate n None) v None (omega arith)
-            ] in
-            let both = sym none ∙ sym (get_or-set_other (replicate n None) s v (Some 0) None ne) ∙ h in
-            absurd (cc)
-      ]
-
-  begin' : (n : ℕ) → s < n → IsSearch f g s (set (replicate n None) s (Some 0)) (s ∷ []) [] 0
-  begin' n lt = grind (arith, common_steps, length-replicate, get_or-set_same, only, All-cons, All-nil, Contains-push)
-
-  -- only the source has a level
-  pub begin : (n : ℕ) (levels : List (Option ℕ)) → levels ≡ replicate n None → s < n
-      → IsSearch f g s (set levels s (Some 0)) (s ∷ []) [] 0
-  begin n levels e lt = subst (λ xs. IsSearch f g s (set xs s (Some 0)) (s ∷ []) [] 0) (sym e) (begin' n lt)

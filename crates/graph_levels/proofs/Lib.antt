@@ -1,5 +1,6 @@
 pub mod Frontiers
 pub mod Marking
+pub mod Searches
 pub mod Tables
 pub mod Trees
 pub mod Walks

@@ -43,6 +43,5 @@ marks_more marks new rows d v are marked others w = grind (arith, common_steps, 
 pub none_marked : (count v : ℕ) → IsMarked (replicate count 0) v → ⊥
 none_marked count v marked = grind (arith, common_steps, cases_lt, get_or-replicate, get_or_past, length-replicate, bit_at-zero)
 
-pub first_marked : (count s : ℕ) (new : List ℕ) → IsMarked new s
-    → ((w : ℕ) → w ≢ s → (IsMarked new w ↔ IsMarked (replicate count 0) w)) → AreVertexMarks new ((record { 0 = s }, 0) ∷ [])
-first_marked count s new marked others = grind (arith, common_steps, marks_more, none_marked, false≢true)
+pub no_marks : (count : ℕ) → AreVertexMarks (replicate count 0) []
+no_marks count v = (λ marked. absurd (none_marked count v marked), λ stands. absurd (false≢true stands))

@@ -111,12 +111,9 @@ front_more d ts old rows front =
 pub none_left : (k : ℕ) (rows : List (VertexId × ℕ)) → length rows ≤ k → vertices_of (drop k rows) ≡ []
 none_left k rows past = ap vertices_of (drop_all k rows past)
 
-pub first_rows : (n s : ℕ) → s < n → AreRows n ((record { 0 = s }, 0) ∷ [])
+pub no_rows : (n : ℕ) → AreRows n []
 unfolding IsDistinct
-first_rows n s lt = record {
-  distinct = (tt, tt);
-  within = All-cons (λ v. v < n) s [] lt (All-nil (λ v. v < n));
-}
+no_rows n = record { distinct = tt; within = All-nil (λ v. v < n) }
 
 -- the row that is asked next
 pub asked : (old rows : List (VertexId × ℕ)) (k : ℕ) (row : VertexId × ℕ) → rows ≡ old ++ drop (length old) rows

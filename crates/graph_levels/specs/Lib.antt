@@ -1,3 +1,4 @@
 pub mod Forest
+pub mod Near
 pub mod Reached
 pub mod Search

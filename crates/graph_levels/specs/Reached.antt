@@ -1,5 +1,5 @@
 -- Rows of the vertices that were reached, each with its level, and marks of vertices.
-use Rattle.std.specs.Prelude.{◌≡◌, ℕ, ◌+◌, ◌<◌, nat_eq, List, [], ◌∷◌, ◌++◌, All, Bool, cond, Option, Some, None, fold, map}
+use Rattle.std.specs.Prelude.{◌≡◌, ℕ, ◌+◌, ◌<◌, nat_eq, List, [], ◌∷◌, ◌++◌, All, Bool, false, cond, Option, Some, None, fold, map}
 use Rattle.std.specs.{Prelude.{replicate, slice_set}, List.{IsDistinct, list_any}}
 use Rattle.std.specs.{Prelude.{◌↔◌, ◌/◌, ◌%◌, slice_index_or, IsTrue}, Int.bit_at}
 use Rattle.graph_types.specs.{Graph.Graph, Analyses.AreLevels, declared.ids.{Filter.Filter, VertexId.VertexId}}
@@ -14,6 +14,11 @@ vertices_of rows = map (λ row. row.0.0) rows
 -- whether a vertex stands in a row
 abbrev pub stands_in : ℕ → List (VertexId × ℕ) → Bool
 stands_in v rows = list_any (nat_eq v) (vertices_of rows)
+
+-- whether there is a vertex to be reached, and it stands in a row
+abbrev pub is_found : List (VertexId × ℕ) → Option ℕ → Bool
+is_found rows None = false
+is_found rows (Some t) = stands_in t rows
 
 -- the rows with one more, at the end, for each of these vertices that stood in none, with this level
 abbrev pub met : ℕ → List ℕ → List (VertexId × ℕ) → List (VertexId × ℕ)

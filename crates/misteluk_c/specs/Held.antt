@@ -5,6 +5,7 @@ use Rattle.graph_types.specs.{Answer.is_listed, Limits.operation_limit, Step.num
 use Rattle.graph_types.specs.declared.batches.Batch.{Batch}
 use Rattle.graph_version.specs.declared.versions.Version.{Version}
 use Rattle.graph_version.specs.Versions.{VersionView}
+use Rattle.graph_walks.specs.declared.incoming.Incoming.{Incoming}
 use Rattle.version_columns.specs.declared.{views.ColumnError.ColumnError, names.TextError.TextError, lookups.Marks.Marks}
 use Rattle.version_columns.specs.Texts.{WritesNames}
 use Rattle.batch_columns.specs.Dictionaries.{IsPushed}
@@ -16,6 +17,7 @@ use Rattle.misteluk_c.specs.Codes.{column_code, columns_code, push_code, names_r
 abbrev pub held_version_of : Option Held → Option VersionView
 held_version_of None = None
 held_version_of (Some (held.Version version)) = Some (arc_value {X = Version} version)
+held_version_of (Some (held.Indexed incoming)) = Some (arc_value {X = Incoming} incoming)
 held_version_of (Some _) = None
 
 abbrev pub batch_in : Option Held → Option (List NamedOp)

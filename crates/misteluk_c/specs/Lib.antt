@@ -6,3 +6,4 @@ pub mod Phases
 pub mod Columns
 pub mod Edges
 pub mod Texts
+pub mod Walks

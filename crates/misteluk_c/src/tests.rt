@@ -22,6 +22,7 @@ use crate::versions::{
     misteluk_version_kind_names, misteluk_version_labels, misteluk_version_levels,
     misteluk_version_names, misteluk_version_row, misteluk_version_size, misteluk_version_vertex,
 };
+use crate::walking::{misteluk_version_index, misteluk_version_path, misteluk_version_within};
 use desk_counts::Counts;
 use std::alloc::Global;
 use store_handles::Handle;
@@ -223,6 +224,30 @@ fn ask(alloc: Global, version: &mut Handle) -> u32 {
         misteluk_version_levels(alloc, version, &EVERY, 0, &mut outgoing),
         misteluk_version_labels(alloc, version, &EVERY, &mut outgoing),
         misteluk_version_cores(alloc, version, &EVERY, &mut outgoing),
+        reach(alloc, version),
+    ];
+    sum(&codes)
+}
+
+/// Goes from both vertices either way.
+fn reach(alloc: Global, version: &mut Handle) -> u32 {
+    let mut vertices = [0; 2];
+    let mut levels = [7; 2];
+    let mut count = 0;
+    let codes = [
+        misteluk_version_index(alloc, version),
+        misteluk_version_within(
+            alloc,
+            version,
+            &EVERY,
+            2,
+            &[0, 1],
+            1,
+            &mut vertices,
+            &mut levels,
+            &mut count,
+        ),
+        misteluk_version_path(alloc, version, &EVERY, 0, 1, &mut vertices, &mut count),
     ];
     sum(&codes)
 }

@@ -11,9 +11,9 @@ use crate::codes::{
     BAD_SIZE, HELD_ALREADY, MEMORY, NO_HANDLE, NO_KIND, NO_VERTEX, OK, column_code, columns_code,
     names_code,
 };
+use crate::held::{copy_of, version_in};
 use graph_version::Version;
 use std::alloc::Global;
-use std::sync::Arc;
 use store_handles::{Handle, Held};
 use version_columns as columns;
 use version_columns::{Marks, VersionSize, View};
@@ -43,19 +43,16 @@ fn clone_of(alloc: Global, held: &Held, out: &mut Handle) -> u32
         (λ v. MakesHeld out.old.held out.new.held result (λ held. held_version_of held ≡ Some v)) }
     ensures none { held_version_of (Some held.now) ≡ None → out.new.held ≡ out.old.held }
 {
-    let Held::Version(version) = held else {
+    if version_in(held).is_none() {
         return NO_HANDLE;
-    };
+    }
     if !out.is_empty() {
         return HELD_ALREADY;
     }
-    let Ok(copy) = Arc::try_clone(version) else {
+    let Ok(copy) = copy_of(alloc, held) else {
         return MEMORY;
     };
-    let Ok(boxed) = Box::new(alloc, Held::Version(copy)) else {
-        return MEMORY;
-    };
-    out.put(boxed);
+    out.put(copy);
     OK
 }
 
@@ -81,9 +78,9 @@ pub extern "C" fn misteluk_version_size(
     let Some(held) = version.take(alloc) else {
         return NO_HANDLE;
     };
-    let code = match &*held {
-        Held::Version(version) => size_to(version, out),
-        _ => NO_HANDLE,
+    let code = match version_in(&held) {
+        Some(version) => size_to(version, out),
+        None => NO_HANDLE,
     };
     version.put(held);
     code
@@ -104,9 +101,9 @@ pub extern "C" fn misteluk_version_vertex(
     let Some(held) = version.take(alloc) else {
         return NO_HANDLE;
     };
-    let code = match &*held {
-        Held::Version(version) => number_to(columns::vertex(version, name), NO_VERTEX, out),
-        _ => NO_HANDLE,
+    let code = match version_in(&held) {
+        Some(version) => number_to(columns::vertex(version, name), NO_VERTEX, out),
+        None => NO_HANDLE,
     };
     version.put(held);
     code
@@ -127,9 +124,9 @@ pub extern "C" fn misteluk_version_kind(
     let Some(held) = version.take(alloc) else {
         return NO_HANDLE;
     };
-    let code = match &*held {
-        Held::Version(version) => number_to(columns::kind(version, name), NO_KIND, out),
-        _ => NO_HANDLE,
+    let code = match version_in(&held) {
+        Some(version) => number_to(columns::kind(version, name), NO_KIND, out),
+        None => NO_HANDLE,
     };
     version.put(held);
     code
@@ -151,12 +148,12 @@ pub extern "C" fn misteluk_version_names(
     let Some(held) = version.take(alloc) else {
         return NO_HANDLE;
     };
-    let code = match &*held {
-        Held::Version(version) => names_code(
+    let code = match version_in(&held) {
+        Some(version) => names_code(
             NO_VERTEX,
             columns::write_names(version.names(), first, text, ends),
         ),
-        _ => NO_HANDLE,
+        None => NO_HANDLE,
     };
     version.put(held);
     code
@@ -178,12 +175,12 @@ pub extern "C" fn misteluk_version_kind_names(
     let Some(held) = version.take(alloc) else {
         return NO_HANDLE;
     };
-    let code = match &*held {
-        Held::Version(version) => names_code(
+    let code = match version_in(&held) {
+        Some(version) => names_code(
             NO_KIND,
             columns::write_names(version.kinds(), first, text, ends),
         ),
-        _ => NO_HANDLE,
+        None => NO_HANDLE,
     };
     version.put(held);
     code
@@ -206,9 +203,9 @@ pub extern "C" fn misteluk_version_edge(
     let Some(held) = version.take(alloc) else {
         return NO_HANDLE;
     };
-    let code = match &*held {
-        Held::Version(version) => edge_to(version, kind, source, target, out),
-        _ => NO_HANDLE,
+    let code = match version_in(&held) {
+        Some(version) => edge_to(version, kind, source, target, out),
+        None => NO_HANDLE,
     };
     version.put(held);
     code
@@ -234,13 +231,13 @@ pub extern "C" fn misteluk_version_degrees(
     let Some(held) = version.take(alloc) else {
         return NO_HANDLE;
     };
-    let code = match &*held {
-        Held::Version(version) => {
+    let code = match version_in(&held) {
+        Some(version) => {
             columns_code(columns::write_degrees(
                 alloc, version, view, outgoing, incoming, out_weight,
             ))
         },
-        _ => NO_HANDLE,
+        None => NO_HANDLE,
     };
     version.put(held);
     code
@@ -262,11 +259,9 @@ pub extern "C" fn misteluk_version_levels(
     let Some(held) = version.take(alloc) else {
         return NO_HANDLE;
     };
-    let code = match &*held {
-        Held::Version(version) => columns_code(columns::write_levels(
-            alloc, version, view, source, levels,
-        )),
-        _ => NO_HANDLE,
+    let code = match version_in(&held) {
+        Some(version) => columns_code(columns::write_levels(alloc, version, view, source, levels)),
+        None => NO_HANDLE,
     };
     version.put(held);
     code
@@ -287,9 +282,9 @@ pub extern "C" fn misteluk_version_labels(
     let Some(held) = version.take(alloc) else {
         return NO_HANDLE;
     };
-    let code = match &*held {
-        Held::Version(version) => columns_code(columns::write_labels(alloc, version, view, labels)),
-        _ => NO_HANDLE,
+    let code = match version_in(&held) {
+        Some(version) => columns_code(columns::write_labels(alloc, version, view, labels)),
+        None => NO_HANDLE,
     };
     version.put(held);
     code
@@ -310,9 +305,9 @@ pub extern "C" fn misteluk_version_cores(
     let Some(held) = version.take(alloc) else {
         return NO_HANDLE;
     };
-    let code = match &*held {
-        Held::Version(version) => columns_code(columns::write_cores(alloc, version, view, cores)),
-        _ => NO_HANDLE,
+    let code = match version_in(&held) {
+        Some(version) => columns_code(columns::write_cores(alloc, version, view, cores)),
+        None => NO_HANDLE,
     };
     version.put(held);
     code
@@ -359,9 +354,9 @@ pub extern "C" fn misteluk_version_row(
     let Some(held) = version.take(alloc) else {
         return NO_HANDLE;
     };
-    let code = match &*held {
-        Held::Version(version) => row_to(version, view, source, into, count),
-        _ => NO_HANDLE,
+    let code = match version_in(&held) {
+        Some(version) => row_to(version, view, source, into, count),
+        None => NO_HANDLE,
     };
     version.put(held);
     code
@@ -414,9 +409,9 @@ pub extern "C" fn misteluk_version_edges(
     let Some(held) = version.take(alloc) else {
         return NO_HANDLE;
     };
-    let code = match &*held {
-        Held::Version(version) => edges_to(version, view, source, into, count),
-        _ => NO_HANDLE,
+    let code = match version_in(&held) {
+        Some(version) => edges_to(version, view, source, into, count),
+        None => NO_HANDLE,
     };
     version.put(held);
     code

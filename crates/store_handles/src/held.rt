@@ -3,6 +3,7 @@
 use desk::{OwnedDesk, OwnedReady};
 use graph_types::Batch;
 use graph_version::Version;
+use graph_walks::Incoming;
 use std::sync::Arc;
 
 /// What a handle may hold.
@@ -16,4 +17,6 @@ pub enum Held {
     /// A batch that a desk refused, which had shared it.
     Shared(Arc<Batch>),
     Version(Arc<Version>),
+    /// A version, with its edges in the order of their targets.
+    Indexed(Arc<Incoming>),
 }

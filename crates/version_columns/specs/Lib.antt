@@ -1,5 +1,7 @@
-pub mod Views
 pub mod Lookups
-pub mod Texts
-pub mod Tables
+pub mod Nearby
+pub mod Paths
 pub mod Rows
+pub mod Tables
+pub mod Texts
+pub mod Views

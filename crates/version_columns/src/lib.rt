@@ -6,6 +6,8 @@
 mod edges;
 mod lookups;
 mod names;
+mod nearby;
+mod paths;
 mod rows;
 mod tables;
 mod views;
@@ -13,6 +15,8 @@ mod views;
 pub use edges::write_edges;
 pub use lookups::{Marks, VersionSize, edge, kind, size, vertex};
 pub use names::{TextError, write_names};
+pub use nearby::{Ways, write_within};
+pub use paths::write_path;
 pub use rows::write_row;
 pub use tables::{write_cores, write_degrees, write_labels, write_levels};
 pub use views::{ColumnError, NO_NUMBER, View, filter_of};

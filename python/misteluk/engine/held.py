@@ -15,6 +15,7 @@ from .calling import Handles, Known, LibraryFlight, address, check, refusal_of, 
 from .guard import Guard, Notes, Owned
 from .interface import Code, Library
 from .protocol import WHOLE, Arrays, Denied, Ends, Marks, Scope
+from .walked import Walked
 from ..errors import NoSeat, SessionClosed
 from ..values.answers import Compacted
 from ..values.limits import Limits
@@ -75,10 +76,11 @@ class Kept:
     """What a version keeps from call to call until it is closed: the handles and rows that nobody uses now, and what was asked of
     all. A call takes it once: where the version is closed meanwhile, it ends with what it took, which goes with it."""
 
-    __slots__ = ("idle", "rows", "names", "all", "begins", "by_target", "answers")
+    __slots__ = ("idle", "is_indexed", "rows", "names", "all", "begins", "by_target", "answers")
 
     def __init__(self) -> None:
         self.idle: List[Owned] = []
+        self.is_indexed = False
         self.rows: List[Row] = []
         self.names: Optional[List[str]] = None
         self.all: Optional[Arrays] = None
@@ -87,7 +89,7 @@ class Kept:
         self.answers = Answers()
 
 
-class LibraryVersion:
+class LibraryVersion(Walked):
     """A version that is held. Each thread that asks takes a handle of its own: a copy of the first one, which is never asked.
     `_other` is the one whose hold it shares."""
 

@@ -11,6 +11,10 @@ INTERFACE = 4
 VERSION = 100
 ANY_KIND = 0xFFFF_FFFF
 NOT_REACHED = 0xFFFF_FFFF
+ALONG = 0
+AGAINST = 1
+EITHER = 2
+ANY_STEPS = 0xFFFF_FFFF
 INSERT = 0
 ADD = 1
 REMOVE = 2
@@ -215,6 +219,10 @@ FUNCTIONS: Dict[str, Tuple[Any, List[Any]]] = {
     "version_edge": (c_uint32, [POINTER(Version), c_uint32, c_uint32, c_uint32, POINTER(Edge)]),
     "version_degrees": (c_uint32, [POINTER(Version), POINTER(View), c_void_p, c_size_t, c_void_p, c_size_t, c_void_p, c_size_t]),
     "version_levels": (c_uint32, [POINTER(Version), POINTER(View), c_uint32, c_void_p, c_size_t]),
+    "version_index": (c_uint32, [POINTER(Version)]),
+    "version_within": (c_uint32, [POINTER(Version), POINTER(View), c_uint32, c_void_p, c_size_t, c_uint32, c_void_p, c_size_t,
+        c_void_p, c_size_t, POINTER(c_uint64)]),
+    "version_path": (c_uint32, [POINTER(Version), POINTER(View), c_uint32, c_uint32, c_void_p, c_size_t, POINTER(c_uint64)]),
     "version_labels": (c_uint32, [POINTER(Version), POINTER(View), c_void_p, c_size_t]),
     "version_cores": (c_uint32, [POINTER(Version), POINTER(View), c_void_p, c_size_t]),
     "version_row": (c_uint32, [POINTER(Version), POINTER(View), c_uint32, POINTER(EdgeColumns), POINTER(c_uint64)]),
@@ -263,6 +271,9 @@ class Library:
     version_edge: Callable[[Version, int, int, int, Edge], int]
     version_degrees: Callable[[Version, View, Memory, int, Memory, int, Memory, int], int]
     version_levels: Callable[[Version, View, int, Memory, int], int]
+    version_index: Callable[[Version], int]
+    version_within: Callable[[Version, View, int, Memory, int, int, Memory, int, Memory, int, c_uint64], int]
+    version_path: Callable[[Version, View, int, int, Memory, int, c_uint64], int]
     version_labels: Callable[[Version, View, Memory, int], int]
     version_cores: Callable[[Version, View, Memory, int], int]
     version_row: Callable[[Version, View, int, EdgeColumns, c_uint64], int]

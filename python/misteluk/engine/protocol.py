@@ -185,6 +185,14 @@ class Held(Protocol):
     def levels(self, scope: Scope, source: str) -> "Tuple[Sequence[int], array[int]]":
         """The vertices that are reached, by number, and how many edges they are away."""
 
+    def within(self, scope: Scope, source: str, steps: int, either: bool) -> "Tuple[array[int], array[int]]":
+        """The vertices that are reached in at most so many steps along edges, or along and against them, by number, and in how
+        many."""
+
+    def path(self, scope: Scope, source: str, target: str) -> "array[int]":
+        """The vertices of a shortest walk along edges, by number, with both ends: from the target on, each is the least that can
+        stand there. There are none where no walk leads there."""
+
     def edge(self, ends: Ends) -> Optional[Marks]:
         """One edge, or `None`."""
 

@@ -95,6 +95,13 @@ class ServedVersion:
         reached, levels = self._columns("levels", scope, name=source)
         return reached, levels
 
+    def within(self, scope: Scope, source: str, steps: int, either: bool) -> "Tuple[array[int], array[int]]":
+        vertices, levels = self._columns("within", scope, name=source, steps=steps, either=either)
+        return vertices, levels
+
+    def path(self, scope: Scope, source: str, target: str) -> "array[int]":
+        return self._columns("path", scope, name=source, target=target)[0]
+
     def found(self, ends: Sequence[Ends]) -> "List[Union[Marks, Denied, None]]":
         told: List[Any] = []
         for at in range(0, max(len(ends), 1), MOST_VALUES):

@@ -74,7 +74,10 @@ def asked(held: Held, call: str, given: Mapping[str, Any], named: "Named") -> It
     if call not in CALLS:
         raise ValueError(f"a version isn't asked for {call!r}")
     scope = _scope(given)
-    told: Any = getattr(held, call)(scope, *([_text(given.get("name"))] if CALLS[call] else []))
+    of_name = [_text(given.get("name"))] if CALLS[call] else []
+    more: Any = {"within": lambda: (_steps(given.get("steps")), given.get("either") is True),
+                 "path": lambda: (_text(given.get("target")),)}.get(call, tuple)()
+    told: Any = getattr(held, call)(scope, *of_name, *more)
     if call == "levels":
         told = array("I", told[0]), told[1]
     return packed([told] if isinstance(told, array) else told)
@@ -99,7 +102,8 @@ def is_of_all(given: Mapping[str, Any]) -> bool:
 
 
 # The calls that give columns, and whether they are of a name.
-CALLS = {"degrees": False, "labels": False, "cores": False, "edges": False, "levels": True, "out_of": True, "into": True}
+CALLS = {"degrees": False, "labels": False, "cores": False, "edges": False, "levels": True, "within": True, "path": True,
+         "out_of": True, "into": True}
 
 
 def _scope(given: Mapping[str, Any]) -> Scope:
@@ -114,6 +118,12 @@ def _text(value: object) -> str:
     if reason:
         raise ValueError(reason)
     return str(value)
+
+
+def _steps(value: object) -> int:
+    if type(value) is not int or value < 0:
+        raise ValueError("a number of steps is a whole number from 0 on")
+    return value
 
 
 def _time(value: object) -> int:

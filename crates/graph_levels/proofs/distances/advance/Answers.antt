@@ -1,27 +1,25 @@
 use Rattle.std.{proofs.Common.{◌≡◌, ◌<◌, ◌+◌, ◌++◌, ◌∙◌, [], arith, length, drop, ap, sym, get_or, ℕ, subst}, specs.{Prelude.All, List.Contains}}
 use Rattle.std.{proofs.lemmas.List.{append-nil, drop_all, length-append}}
 use Rattle.graph_levels.specs.{Reached.{level_table, vertices_of}, Search.IsSearch}
-use Rattle.graph_types.specs.{Analyses.LeadsTo, declared.ids.VertexId.VertexId}
+use Rattle.graph_types.specs.declared.ids.VertexId.{VertexId}
 use Rattle.graph_types.proofs.Elements.{told}
-use Rattle.graph_levels.proofs.{Frontiers.step, Tables.{front_more, met_rows}}
+use Rattle.graph_levels.proofs.{Frontiers.{step as step_on}, Tables.{front_more, met_rows}}
 use Rattle.graph_levels.proofs.distances.advance.Goals as goal
 
 pub visit-requires-clause-within : goal.visit-requires-clause-within
 visit-requires-clause-within g c = λ k d lt.
-    let f = g.R.ViewEdges.filter c.args.edges.now in
-    let gr = g.R.ViewEdges.graph c.args.edges.now in
+    let step = g.S.Steps.leads c.args.steps.now in
     let u = c.index.result.now.0.0 in
-    let edge : LeadsTo f gr u (get_or c.deref.result.now k d) =
-    told (LeadsTo f gr u) _ _ c.deref.ensures.value c.in_ok-list_targets.ensures k d lt in
+    let edge : step u (get_or c.deref.result.now k d) =
+    told (step u) _ _ c.deref.ensures.value c.in_ok-list_next.ensures k d lt in
     let below = (c.requires.within u (get_or c.deref.result.now k d) edge).1 in
     let words = c.loop-place.invariant.words in
     omega (arith, below, words)
 
 pub loop-place-preserved : goal.loop-place-preserved
 loop-place-preserved g c =
-    let f = g.R.ViewEdges.filter c.args.edges.now in
-    let gr = g.R.ViewEdges.graph c.args.edges.now in
-    let n = length gr.names in
+    let step = g.S.Steps.leads c.args.steps.now in
+    let n = g.S.Steps.vertices c.args.steps.now in
     let d = c.args.depth in
     let k = c.loop-place.place in
     let old = c.args.rows.now.items in
@@ -30,17 +28,17 @@ loop-place-preserved g c =
     let i = c.loop-place.invariant in
     let ts = c.deref.result.now in
     let lt : k < length old = omega (arith, c.loop-place-test.true, c.loop-place.auto.place-end, c.len-place-end.ensures) in
-    let edges : All (LeadsTo f gr row.0.0) ts =
-    told (LeadsTo f gr row.0.0) _ _ c.deref.ensures.value c.in_ok-list_targets.ensures in
+    let edges : All (step row.0.0) ts =
+    told (step row.0.0) _ _ c.deref.ensures.value c.in_ok-list_next.ensures in
     let in' : All (λ v. v < n) ts = λ j e lt. (c.requires.within row.0.0 (get_or ts j e) (edges j e lt)).1 in
-    let each : (b : ℕ) → LeadsTo f gr row.0.0 b → Contains ts b =
-    λ b edge. subst (λ xs. Contains xs b) (sym c.deref.ensures.value) ((c.in_ok-list_targets.ensures b).1 edge) in
+    let each : (b : ℕ) → step row.0.0 b → Contains ts b =
+    λ b edge. subst (λ xs. Contains xs b) (sym c.deref.ensures.value) ((c.in_ok-list_next.ensures b).1 edge) in
     rw c.in_ok-visit.ensures.rows (record {
       words = omega (arith, i.words, c.visit.auto.marks);
       marks = rw (← c.in_ok-visit.ensures.rows) c.in_ok-visit.ensures.marks;
       rows = met_rows n (d + 1) ts rows in' i.rows;
       front = front_more (d + 1) ts old rows i.front;
-      search = λ s start. step f gr s n d k ts old rows row i.front lt c.index.ensures edges in' each (i.search s start);
+      search = λ s start. step_on step s n d k ts old rows row i.front lt c.index.ensures edges in' each (i.search s start);
     })
 
 pub loop-place-init : goal.loop-place-init
@@ -52,8 +50,8 @@ loop-place-init g c =
       marks = c.requires.marks;
       rows = c.requires.rows;
       front = sym (append-nil old) ∙ ap (λ xs. old ++ xs) (sym none);
-      search = λ s start. subst (λ xs. IsSearch (g.R.ViewEdges.filter c.args.edges.now) (g.R.ViewEdges.graph c.args.edges.now) s
-          (level_table (length (g.R.ViewEdges.graph c.args.edges.now).names) old) (vertices_of (drop c.args.first old))
+      search = λ s start. subst (λ xs. IsSearch (g.S.Steps.leads c.args.steps.now) s
+          (level_table (g.S.Steps.vertices c.args.steps.now) old) (vertices_of (drop c.args.first old))
           (vertices_of xs) c.args.depth) (sym none) start;
     }
 
@@ -84,7 +82,7 @@ returns g c =
       marks = c.loop-place.invariant.marks;
       rows = c.loop-place.invariant.rows;
       more = omega arith;
-      search = λ s start. subst (λ xs. IsSearch (g.R.ViewEdges.filter c.args.edges.now) (g.R.ViewEdges.graph c.args.edges.now) s
-          (level_table (length (g.R.ViewEdges.graph c.args.edges.now).names) rows) (vertices_of xs)
+      search = λ s start. subst (λ xs. IsSearch (g.S.Steps.leads c.args.steps.now) s
+          (level_table (g.S.Steps.vertices c.args.steps.now) rows) (vertices_of xs)
           (vertices_of (drop (length old) rows)) c.args.depth) none (c.loop-place.invariant.search s start);
     }

@@ -1,63 +1,98 @@
-use Rattle.std.proofs.Common.{◌≡◌, ◌≤◌, ◌+◌, ◌/◌, ◌∙◌, [], ℕ, arith, length, drop, refl, ap, subst}
-use Rattle.std.{proofs.lemmas.List.length-replicate, specs.Prelude.replicate}
-use Rattle.graph_levels.specs.{Search.IsSearch, Reached.IsMarked, Reached.level_table, Reached.vertices_of}
-use Rattle.graph_levels.proofs.{Frontiers.begin, Frontiers.deeper, Frontiers.found, Marking.first_marked}
-use Rattle.graph_levels.proofs.Tables.{few_rows, first_rows, length-table, none_left}
+use Rattle.std.proofs.Common.{◌≡◌, ◌≤◌, ◌<◌, ◌+◌, ◌/◌, ◌∙◌, ◌⊎◌, [], ℕ, List, Some, inl, inr, arith, length, drop, refl, ap, sym, subst}
+use Rattle.std.{proofs.lemmas.List.length-replicate, specs.Prelude.{All, replicate}}
+use Rattle.graph_types.specs.declared.ids.VertexId.{VertexId}
+use Rattle.graph_levels.specs.{Search.IsSearch, Reached.{AreRows, is_found, level_table, met, vertices_of}}
+use Rattle.graph_levels.proofs.{Frontiers.deeper, Marking.no_marks}
+use Rattle.graph_levels.proofs.Searches.{begin, begin_flat, bound_is, ends, found, found_level, goes_on, is_over, less_is_within, marks_within, none_is_within}
+use Rattle.graph_levels.proofs.Tables.{few_rows, length-table, met_rows, no_rows, none_left}
 use Rattle.graph_levels.proofs.distances.reach.Goals as goal
 
-pub mark-requires : goal.mark-requires
-mark-requires g c =
-    let n = length (g.R.ViewEdges.graph c.args.edges.now).names in
+pub visit-requires-clause-within : goal.visit-requires-clause-within
+visit-requires-clause-within g c = λ k d lt.
+    let n = g.S.Steps.vertices c.args.steps.now in
     let long = ap length c.requires.fresh ∙ length-replicate (n / 64 + 1) 0 in
-    omega (arith, c.requires.source, long)
+    omega (arith, c.requires.sources k d lt, long)
+
+pub visit-requires-clause-marks : goal.visit-requires-clause-marks
+visit-requires-clause-marks g c =
+    rw (c.requires.fresh, c.new-rows.ensures.items) (no_marks (g.S.Steps.vertices c.args.steps.now / 64 + 1))
+
+pub is_found-requires-clause-within : goal.is_found-requires-clause-within
+is_found-requires-clause-within g c =
+    marks_within c.args.until (g.S.Steps.vertices c.args.steps.now) (length c.frontiers.marks) c.frontiers.invariant.words c.requires.until
 
 pub frontiers-init : goal.frontiers-init
 frontiers-init g c =
-    let f = g.R.ViewEdges.filter c.args.edges.now in
-    let gr = g.R.ViewEdges.graph c.args.edges.now in
-    let s = c.args.source.0 in
-    let n = length gr.names in
+    let step = g.S.Steps.leads c.args.steps.now in
+    let sources = c.args.sources.now in
+    let n = g.S.Steps.vertices c.args.steps.now in
     let long = ap length c.requires.fresh ∙ length-replicate (n / 64 + 1) 0 in
-    rw c.in_ok-rows.ensures.items (record {
-      words = omega (arith, long, c.mark.auto.marks);
-      marks = first_marked (n / 64 + 1) s c.mark.new.marks c.mark.ensures.marked
-          (subst (λ old. (v : ℕ) → (v ≡ s → ⊥) → ((IsMarked c.mark.new.marks v → IsMarked old v)
-          × (IsMarked old v → IsMarked c.mark.new.marks v))) c.requires.fresh c.mark.ensures.others);
-      rows = first_rows n s c.requires.source;
-      search = begin f gr s n (replicate n _) refl c.requires.source;
-      room = omega (arith, c.requires.source);
+    let all : c.visit.new.rows.items ≡ met 0 sources [] =
+    c.in_ok-visit.ensures.rows ∙ ap (λ (rows : List (VertexId × ℕ)). met 0 sources rows) c.new-rows.ensures.items in
+    rw all (record {
+      words = omega (arith, long, c.visit.auto.marks);
+      marks = rw (← all) c.in_ok-visit.ensures.marks;
+      rows = met_rows n 0 sources [] c.requires.sources (no_rows n);
+      search = begin step sources n c.requires.sources;
+      flat = begin_flat step sources n c.requires.sources;
+      bound = none_is_within c.args.most;
+      room = few_rows n (met 0 sources []) (met_rows n 0 sources [] c.requires.sources (no_rows n));
       deep = omega arith;
     })
 
 pub frontiers-preserved : goal.frontiers-preserved
 frontiers-preserved g c =
-    let f = g.R.ViewEdges.filter c.args.edges.now in
-    let gr = g.R.ViewEdges.graph c.args.edges.now in
-    let s = c.args.source.0 in
-    let n = length gr.names in
+    let step = g.S.Steps.leads c.args.steps.now in
+    let sources = c.args.sources.now in
+    let n = g.S.Steps.vertices c.args.steps.now in
     let d = c.frontiers.depth in
     let i = c.frontiers.invariant in
     let old = c.frontiers.rows.items in
     let new = c.advance.new.rows.items in
     let end : length old ≡ c.len-end.result = omega (arith, c.len-end.ensures) in
+    let on = goes_on c.frontiers.first c.len.result d c.args.most c.is_found.result
+    (sym c.goes_on.ensures ∙ c.frontiers-test.true) in
+    let more : IsSearch step sources (level_table n new) [] (vertices_of (drop (length old) new)) d =
+    c.in_ok-advance.ensures.search sources i.search in
     record {
       words = omega (arith, i.words, c.advance.auto.marks);
       marks = c.in_ok-advance.ensures.marks;
       rows = c.in_ok-advance.ensures.rows;
-      search = subst (λ m. IsSearch f gr s (level_table n new) (vertices_of (drop m new)) [] (d + 1)) end
-          (deeper f gr s (level_table n new) (vertices_of (drop (length old) new)) d (c.in_ok-advance.ensures.search s i.search));
+      search = subst (λ m. IsSearch step sources (level_table n new) (vertices_of (drop m new)) [] (d + 1)) end
+          (deeper step sources (level_table n new) (vertices_of (drop (length old) new)) d more);
+      flat = λ v k h. more.low v k h;
+      bound = less_is_within c.args.most d on.1;
       room = few_rows n new c.in_ok-advance.ensures.rows;
-      deep = omega (arith, i.deep, c.frontiers-test.true, c.len.ensures, c.len-end.ensures);
+      deep = omega (arith, i.deep, on.0, c.len.ensures, c.len-end.ensures);
     }
 
 pub returns-clause-levels : goal.returns-clause-levels
 returns-clause-levels g c =
-    let f = g.R.ViewEdges.filter c.args.edges.now in
-    let gr = g.R.ViewEdges.graph c.args.edges.now in
-    let s = c.args.source.0 in
-    let n = length gr.names in
+    let step = g.S.Steps.leads c.args.steps.now in
+    let sources = c.args.sources.now in
+    let n = g.S.Steps.vertices c.args.steps.now in
     let d = c.frontiers.depth in
+    let i = c.frontiers.invariant in
     let rows = c.frontiers.rows.items in
-    let past : length rows ≤ c.frontiers.first = omega (arith, c.frontiers-test.false, c.len.ensures) in
-    found f gr s (level_table n rows) n d (length-table n rows)
-    (subst (λ vs. IsSearch f gr s (level_table n rows) vs [] d) (none_left c.frontiers.first rows past) c.frontiers.invariant.search)
+    let rest = vertices_of (drop c.frontiers.first rows) in
+    elim (is_over c.frontiers.first c.len.result d c.args.most c.is_found.result (sym c.goes_on.ensures ∙ c.frontiers-test.false)) [
+      | inl past ↦ (
+        c.args.most,
+        found step sources (level_table n rows) rest d c.args.most i.search i.flat i.bound
+            (inl (none_left c.frontiers.first rows (omega (arith, past, c.len.ensures)))) n (length-table n rows),
+        ends c.args.most c.args.until (level_table n rows),
+      )
+      | inr (inl bound) ↦ (
+        c.args.most,
+        found step sources (level_table n rows) rest d c.args.most i.search i.flat i.bound
+            (inr (bound_is c.args.most d bound i.bound)) n (length-table n rows),
+        ends c.args.most c.args.until (level_table n rows),
+      )
+      | inr (inr there) ↦ (
+        Some d,
+        found step sources (level_table n rows) rest d (Some d) i.search i.flat (omega arith) (inr refl) n (length-table n rows),
+        found_level n rows c.args.until c.requires.until
+            (ap (λ (rs : List (VertexId × ℕ)). is_found rs c.args.until) (sym c.deref.ensures.value) ∙ sym c.is_found.ensures ∙ there)
+            c.args.most (Some d),
+      )
+    ]

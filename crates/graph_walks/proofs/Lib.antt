@@ -1,0 +1,3 @@
+pub mod PathSteps
+pub mod Sources
+pub mod Runs

@@ -1,0 +1,2 @@
+pub mod ByTarget
+pub mod Paths
