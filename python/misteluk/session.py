@@ -380,9 +380,9 @@ class Session(Generic[W, T]):
 
     def path(self, source: str, target: str, kind: Optional[str] = None, since: Moment = 0, until: Moment = LAST, *,
              edges: bool = False) -> Any:
-        """Returns the names on a walk with the fewest edges from source to target, both included, or `None` if there is none. Of
-        several it is the one that has, from the target on, the first vertex in the version's order each time. With `edges=True`
-        it returns the edges, (kind, source, target, `Edge`) each, the first one where several kinds join two names.
+        """Returns the names on a walk with the fewest edges from source to target, both included, or `None` if there is none. If
+        there are several, it is the one that has, from the target on, the first vertex in the version's order each time. With
+        `edges=True` it returns the edges, (kind, source, target, `Edge`) each, the first one where several kinds join two names.
 
         >>> session.path("kassel", "bonn", kind="road")
         ['kassel', 'fulda', 'hanau', 'bonn']

@@ -3,13 +3,16 @@ from __future__ import annotations
 
 from array import array
 from ctypes import c_uint64
-from typing import Any, Callable, List, Tuple
+from typing import TYPE_CHECKING, Any, Callable, List, Tuple
 
 from . import interface
 from .calling import Known, address, check, room
 from .guard import Owned
 from .interface import Code, Library
 from .protocol import Scope
+
+if TYPE_CHECKING:
+    from .held import Kept
 
 # How many vertices a walk has room for at first: where it needs more, the call tells how much.
 A_FEW = 4_096
@@ -18,7 +21,7 @@ A_FEW = 4_096
 class Walked:
     """What a version answers about walks, of which it has the handle that others are copied from, and how it is asked."""
 
-    kept: Any
+    kept: "Kept"
     count: int
     _library: Library
     _known: Known

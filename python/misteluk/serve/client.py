@@ -32,8 +32,8 @@ class ServedVersion:
         self.slot, self.number, self.count = slot, int(told["version"]), int(told["vertices"])
         self.name, self._engine = str(told["session"]), engine
         self.is_held = True
-        self.path = f"/v1/sessions/{part(self.name)}"
-        self._hold = Hold(self, engine.talk, self.path, engine.idle, engine.keep_alive)
+        self.address = f"/v1/sessions/{part(self.name)}"
+        self._hold = Hold(self, engine.talk, self.address, engine.idle, engine.keep_alive)
         self._lists: Dict[str, List[str]] = {}
 
     @property
@@ -52,7 +52,7 @@ class ServedVersion:
         self._engine.guard.check()
         self._must_be_open()
         try:
-            return self._engine.talk.call("POST", f"{self.path}/ask", {"call": call, **given}).body
+            return self._engine.talk.call("POST", f"{self.address}/ask", {"call": call, **given}).body
         except StoreError as fault:
             self._must_be_open()  # (it may have been closed meanwhile, and its server too)
             if not isinstance(fault, SessionClosed):
@@ -282,7 +282,7 @@ class ServedEngine:
             del self._held[version.slot]
         if version.is_held and not self.is_closed:
             version.end()
-            self._left(version.path)
+            self._left(version.address)
 
     def _left(self, path: str) -> None:
         """Gives back what the server has for this client; one that doesn't answer lets it go by itself."""

@@ -65,6 +65,13 @@ def loaded(data: bytes) -> Any:
 
 # Questions, as `Held` is asked.
 
+def _more(call: str, given: Mapping[str, Any]) -> Tuple[Any, ...]:
+    """What a call is asked with beside a scope and a name."""
+    if call == "within":
+        return _steps(given.get("steps")), given.get("either") is True
+    return (_text(given.get("target")),) if call == "path" else ()
+
+
 def asked(held: Held, call: str, given: Mapping[str, Any], named: "Named") -> Iterator[bytes]:
     """What a held version answers to a call of `Held`. Raises `ValueError` for a call that there isn't, and `Denied`."""
     if call in ("names", "kinds"):
@@ -75,9 +82,7 @@ def asked(held: Held, call: str, given: Mapping[str, Any], named: "Named") -> It
         raise ValueError(f"a version isn't asked for {call!r}")
     scope = _scope(given)
     of_name = [_text(given.get("name"))] if CALLS[call] else []
-    more: Any = {"within": lambda: (_steps(given.get("steps")), given.get("either") is True),
-                 "path": lambda: (_text(given.get("target")),)}.get(call, tuple)()
-    told: Any = getattr(held, call)(scope, *of_name, *more)
+    told: Any = getattr(held, call)(scope, *of_name, *_more(call, given))
     if call == "levels":
         told = array("I", told[0]), told[1]
     return packed([told] if isinstance(told, array) else told)
