@@ -10,6 +10,7 @@ from support import Case, as_soon_as
 from test_serve_apart import children
 from test_serve_journal import FollowedCase
 
+from misteluk import Store
 from misteluk.feeds import growing
 from misteluk.feeds.steps import FeedMark, FeedPlace
 
@@ -26,6 +27,11 @@ class Rotated(FollowedCase):
         """Waits until so many files were left for another one, longer than one that nothing comes of is waited for."""
         as_soon_as(lambda: self.fed().get("rotated") == count)
         time.sleep(growing.ROTATED + growing.LATE_REST)
+
+    def known(self):
+        """How many files of the path the store's file knows."""
+        with Store.at(self.path, time="2999-01-01") as then:
+            return len(then._engine.state.sources.feeds)
 
     def test_rows_that_come_late(self):
         """Who writes a log may have the old file open for long. What comes there goes in until the next file is rotated away,
@@ -84,6 +90,24 @@ class Rotated(FollowedCase):
         os.kill(reader, signal.SIGCONT)
         self.has(400)
         self.assertEqual((self.fed()["rotated"], self.fed()["late"]), (3, 0))
+
+    def test_a_file_of_which_nothing_was_in(self):
+        """It was seen by a server that was killed before a row of it was in, and rotated away while none ran."""
+        self.write(0, 100)
+        server = self.follow()
+        self.has(100)
+        reader, = children(server.pid)
+        os.kill(reader, signal.SIGSTOP)
+        self.rotate()
+        self.write(100, 200)
+        as_soon_as(lambda: self.known() == 2)
+        self.end(server)
+        os.kill(reader, signal.SIGKILL)
+        self.write(200, 210, f"{self.feed}.1")
+        self.rotate()
+        self.write(210, 300)
+        self.follow()
+        self.has(300)
 
     def test_a_file_that_was_removed(self):
         """It is read as long as it is the one before; who writes it may not know."""

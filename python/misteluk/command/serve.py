@@ -10,10 +10,13 @@ import sys
 from typing import Any, Dict, Optional, Tuple
 
 from .file import history
+from ..engine.operations import Operations
+from ..errors import StoreError
 from ..feeds.feed import STANDARD_INPUT
 from ..feeds.following import Following
 from ..feeds.opening import form_of
 from ..feeds.rotation import Succession
+from ..feeds.steps import FeedMark
 from ..journal.tables import SYNCS
 from ..serve import log
 from ..serve.door import raise_descriptors
@@ -199,7 +202,7 @@ class FilesInTurn:
     def __init__(self, store: Store[Any, Any], words: argparse.Namespace, how: Dict[str, Any]) -> None:
         self._store, self._words = store, words
         self._how = {**how, "format": how.get("format") or form_of(words.file, how.get("encoding", "utf-8"))}
-        self._files = Succession(words.file, store._engine.feeds)
+        self._files = Succession(words.file, store._engine.feeds, self._note)
         if self._files.is_another:
             before = ("isn't there any more: what wasn't in of it is lost" if self._files.before is None else
                       f"is {self._files.before}, and what isn't in of it goes in first")
@@ -212,10 +215,14 @@ class FilesInTurn:
         if file is None:
             return None
         with file.file:  # (the one that follows it has it open by itself)
-            found = followed(self._store, file, self._words, self._how)
-        if found.mark is not None:
-            self._files.took(found.mark.turn)
-        return found
+            return followed(self._store, file, self._words, self._how)
+
+    def _note(self, mark: FeedMark) -> None:
+        """Notes a file in the store's, by a batch of nothing. (Where that can't be the first batch of its rows does.)"""
+        batch = Operations()
+        batch.feed = mark.written(mark.place)
+        with contextlib.suppress(StoreError):
+            self._store._ledger.apply(batch, True)
 
     def close(self) -> None:
         self._files.close()

@@ -21,7 +21,7 @@ from ..engine.guard import noting
 from ..engine.operations import EXPIRY
 from .progress import Progress
 from .rejects import Bin, Lines, Rejected, Rejects
-from .rotation import Standing, must_be_in
+from .rotation import Standing, mark_of
 from .spans import Span, ahead_time, kept_time, seconds_of
 from .steps import FeedMark, FeedPlace, Followed, Pace, Recipe
 from .terms import Terms
@@ -108,16 +108,13 @@ class Following(Iterator[Followed]):
         self._source.was_read(place.read, place.mark)
         self._incoming.go_on(place.done, Begin(place.lines, place.byte))
 
-    def _resume(self, feeds: Mapping[str, str], after: Optional[int]) -> None:
-        """Goes on where a store's file has the feed in to, which knows these. Raises `FeedFault` where the path has another file
-        by now, and the one before isn't in, unless this one comes after that in its turn."""
+    def _resume(self, feeds: Mapping[str, str], mark: Optional[FeedMark]) -> None:
+        """Goes on where a store's file has the feed in to, which knows these; without a mark of its own as is found there. Raises
+        `FeedFault` where the path has another file by now, and the one before isn't in."""
         if self._begin is None:
             return
-        mark = FeedMark.of(self.name, os.fstat(self._descriptor), self._begin)
-        self.mark = mark.in_turn(mark.known(feeds), lambda it: self._source.has(it.read, it.mark), after or 0)
+        self.mark = mark or mark_of(self.name, self._descriptor, self._begin, feeds)
         self.resumed = self.mark.place
-        if after is None and not self.resumed.done:
-            must_be_in(self.mark, feeds)
         if self.resumed.done:
             self._pass_over(self.resumed)
             if self.rejects is not None:
@@ -390,10 +387,10 @@ def follow(store: "Store[Any, Any]", feed: Union[Path, Opened], *, by: str, ever
     turned(Feed("", ()), names=how.names)
     place = feed if isinstance(feed, (str, os.PathLike)) or rejects is None else feed.fileno()
     kept_rows = None if rejects is None else Rejects(rejects, how.encoding, place)
-    path, after = (feed.path, feed.after) if isinstance(feed, Standing) else (None, None)
+    path, mark = (feed.path, feed.mark) if isinstance(feed, Standing) else (None, None)
     following = following_of(store, feed, Recipe(form, by, batch, until_end, pace, path), terms, progress, kept_rows)
     try:
-        following._resume(store._engine.feeds, after)
+        following._resume(store._engine.feeds, mark)
     except FeedFault:
         following.close()
         raise

@@ -113,13 +113,13 @@ class FeedMark(NamedTuple):
         found = sorted(map(FeedMark.read, feeds.values()), key=lambda it: it.turn)
         return [it for it in found if it.path == self.path or (it.file, it.begin) == (self.file, self.begin)]
 
-    def in_turn(self, known: "Sequence[FeedMark]", has: Callable[[FeedPlace], bool], after: int = 0) -> "FeedMark":
+    def in_turn(self, known: "Sequence[FeedMark]", has: "Callable[[FeedMark], bool]", after: int = 0) -> "FeedMark":
         """This file, with how far it is in by what is known: not at all where it is a new one, which comes behind the last one of
         its path, and the one of a turn. One that was followed before that is a new one too where it doesn't have what was read:
         the system gives the number of a file that was removed to another."""
         last = max((it.turn for it in known if it.path == self.path), default=0)
         mine = [it for it in known if (it.file, it.begin) == (self.file, self.begin)]
-        mine = [it for it in mine if it.path == self.path and it.turn == last or has(it.place)]
+        mine = [it for it in mine if it.path == self.path and it.turn == last or has(it)]
         found = max(mine, key=lambda it: it.place.done, default=self)
         is_here = bool(mine) and found.path == self.path
         return self._replace(place=found.place, turn=found.turn if is_here else max(last, after) + 1)

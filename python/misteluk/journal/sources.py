@@ -12,7 +12,7 @@ from ..feeds.steps import FeedMark
 from ..values.answers import Commit
 
 # How many keys are known, and how many files by the path of a feed: the last ones.
-MOST_KEYS, MOST_FILES = 10_000, 2
+MOST_KEYS, MOST_FILES = 10_000, 16
 
 
 class Taken(NamedTuple):
