@@ -62,7 +62,7 @@ class Threads(ServeCase):
             with redirect_stderr(io.StringIO()) as said, mock.patch.object(Apart, "_received", side_effect=fault):
                 self.server.feeding.follow(following)
                 as_soon_as(lambda: self.ask("/v1/stat").json["feed"]["state"] == "failed")
-                self.server.feeding._thread.join()
+                as_soon_as(lambda: not self.server.feeding.readers.are_alive)
             told = self.ask("/v1/stat").json["feed"]
             self.assertEqual((told["error"], told["reason"]), (type(fault).__name__, str(fault)))
             self.assertIn("Traceback", said.getvalue())

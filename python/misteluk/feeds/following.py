@@ -7,7 +7,7 @@ import time
 from collections import deque
 from itertools import repeat
 from types import TracebackType
-from typing import TYPE_CHECKING, Any, Callable, Deque, Iterator, List, Mapping, Optional, Protocol, Tuple, Type, Union
+from typing import TYPE_CHECKING, Any, Callable, Deque, Iterator, List, Mapping, Optional, Tuple, Type, Union
 
 from ..values import records
 from ..errors import BadRows, FeedFault, NoAnswer, PoolEmpty, Refused, StoreError, Uncommitted, refusal
@@ -20,7 +20,7 @@ from .opening import ReadAs, form_of
 from ..engine.guard import noting
 from ..engine.operations import EXPIRY
 from .progress import Progress
-from .rejects import Bin, Lines, Rejected, Rejects
+from .rejects import Bin, Keeps, Rejected, Rejects
 from .rotation import Standing, mark_of
 from .spans import Span, ahead_time, kept_time, seconds_of
 from .steps import FeedMark, FeedPlace, Followed, Pace, Recipe
@@ -33,20 +33,6 @@ if TYPE_CHECKING:
 def _is_interrupted() -> bool:
     """Whether this thread is the one in which Python raises an interrupt."""
     return threading.current_thread() is threading.main_thread()
-
-
-class Keeps(Protocol):
-    """What keeps rows that were skipped, as a file does, and how long that is."""
-
-    size: int
-
-    def append(self, lines: Lines) -> None: ...
-
-    def go_on(self, size: int) -> None: ...
-
-
-def _nothing() -> None:
-    pass
 
 
 class Following(Iterator[Followed]):
@@ -66,9 +52,9 @@ class Following(Iterator[Followed]):
         self._incoming, self._source, self._count, self._pace = incoming, incoming.source, count, recipe.pace
         self.recipe, self.rejects = recipe, rejects
         # What is called where rows were skipped and none is pending, with which this would be told.
-        self.on_skipped: Callable[[], None] = _nothing
+        self.on_skipped: Callable[[], None] = lambda: None
         # What is called once another file took the place of this one at the recipe's path, and all is in that this one had then.
-        self.on_left: Callable[[], None] = _nothing
+        self.on_left: Callable[[], None] = lambda: None
         # Rows that were read, the lines of those that are pending, and since when the first of these is.
         self._blocks: Deque[Block] = deque()
         self._lines: List[int] = []
@@ -259,7 +245,7 @@ class Following(Iterator[Followed]):
         except (StoreError, ValueError, OSError) as fault:
             self._ending = fault
         if self._source.is_left and not (self._blocks or self._lines or self._ending):
-            left, self.on_left = self.on_left, _nothing
+            left, self.on_left = self.on_left, lambda: None
             left()
 
     def _fill(self) -> None:

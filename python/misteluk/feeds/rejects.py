@@ -9,7 +9,7 @@ import os
 import stat
 from contextlib import suppress
 from dataclasses import dataclass
-from typing import Any, List, NamedTuple, Optional, Sequence
+from typing import Any, List, NamedTuple, Optional, Protocol, Sequence
 
 from .feed import STANDARD_INPUT, Path, TableForm, codec_of
 from ..errors import FeedFault
@@ -37,6 +37,16 @@ class Lines(NamedTuple):
     first: int
     header: str
     rows: Sequence[str]
+
+
+class Keeps(Protocol):
+    """What keeps rows that were skipped, as a file does, and how long that is."""
+
+    size: int
+
+    def append(self, lines: Lines) -> None: ...
+
+    def go_on(self, size: int) -> None: ...
 
 
 def written(fields: Sequence[Any], sign: str) -> str:
