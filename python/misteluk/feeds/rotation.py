@@ -17,8 +17,8 @@ LOOK, PACKED = 0.25, (".gz", ".xz", ".bz2", ".zst")
 
 
 class Standing:
-    """A file that is open and stands at a path, or stood there before, with its mark, by which it is known again. Where it doesn't
-    stand there any more `found` says where it is."""
+    """A file that is open and stands at a path, or stood there before, with its mark, by which it is known again. `found` says
+    where it is, if it doesn't stand there any more."""
 
     def __init__(self, path: str, file: IO[bytes], found: str, mark: FeedMark) -> None:
         self.name = self.path = path
