@@ -277,7 +277,7 @@ class Store(Uncopied, Generic[W, T]):
     def _open(self, slot: Optional[int] = None) -> Session[W, T]:
         """A session in the first free slot, or in that one."""
         self._ledger.settle()
-        faults = records.faults_of(("open", str(slot or 0)), self.seats)
+        faults = records.faults_of(("open", str(slot)), self.seats) if slot else []
         if faults:
             raise self._ledger.terms.refusal(faults[0])
         try:

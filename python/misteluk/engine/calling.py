@@ -91,9 +91,11 @@ class Handles(NamedTuple):
 
     def give_back(self, library: Library) -> None:
         versions, batches, desks = self
-        if versions.gone or versions.left or batches.gone or batches.left or desks.gone or desks.left:
+        if versions.gone or versions.left:
             versions.give_back(library.version_free)
+        if batches.gone or batches.left:
             batches.give_back(library.batch_free)
+        if desks.gone or desks.left:
             desks.give_back(library.desk_free)
 
 
