@@ -26,7 +26,8 @@ class Pending(Case):
         store = self.store()
         store.load([], by="set", columns=Columns(1, 2, weight=3), units=Units(weight_scale=100))
         self.assertEqual((store.units.weight_scale, store.stat().version), (100, 0))
-        self.assertRaisesRegex(ValueError, "the store's units are", store.load, [("a", "b")], by="set", units=Units(weight_scale=10))
+        other = Units(weight_scale=10)
+        self.assertRaisesRegex(ValueError, "the store's units are", store.load, [("a", "b")], by="set", units=other)
 
     def test_batches_that_are_too_large(self):
         """They are halved as often as that helps, and each operation goes in once; one that is too large alone stays pending."""
