@@ -203,6 +203,14 @@ class Engines(unittest.TestCase):
         store.add("k", "a", "b", 1, 1)
         store.add("k", "a", "c", 1, 1)
         self.assertEqual((store.pending, store.discard(), store.pending), (2, 2, 0))
+        for receipt, dropped in ((DONE, 1), (None, 2)):  # (one that is in isn't told as dropped)
+            number = 1 + (receipt is None)
+            self.talk.answers.update({("POST", f"{BATCH}{number}"): NoAnswer("silent"),
+                                      ("DELETE", f"{BATCH}{number}"): {"receipt": receipt}})
+            store.add("k", "a", "b", 1, 1)
+            self.assertRaises(NoAnswer, store.commit)
+            store.add("k", "a", "c", 1, 1)
+            self.assertEqual((store.discard(), store.pending), (dropped, 0))
 
 
 if __name__ == "__main__":

@@ -8,12 +8,12 @@ from unittest import mock
 from serving import HAS_PACKAGES, NO_PACKAGES, Clock, ServeCase
 from support import Case
 
-from misteluk import Commit, Stat, Store
+from misteluk import Commit, SessionClosed, Stat, Store
 from misteluk.errors import FeedFault, NotWritten
 from misteluk.journal.compaction import FileCompacted
 from misteluk.journal.engine import Journaled
 from misteluk.journal.file import Kept
-from misteluk.serve import feeding, log
+from misteluk.serve import feeding, keeping, log
 from misteluk.serve.board import HeldVersion
 from misteluk.serve.feeding import Feeding
 from misteluk.serve.health import Health
@@ -152,6 +152,24 @@ class Feedings(unittest.TestCase):
         self.assertEqual([found[it] for it in ("state", "bad", "behind", "half_line", "readers_killed", "replaced")],
                          ["followed", 3, 7, True, 2, True])
 
+    def test_batches_by_their_numbers(self):
+        """Each is applied once; what the last one did is known also once its client has no seat; one given up can't come."""
+        done, text = Commit(1, 1, 0, 0, 0, 0), "a,k,x,y,5,1\n"
+        seat = self.feeding.claim()
+        with mock.patch.object(self.feeding, "_apply", return_value=done) as applied:
+            for number in (1, 1, 2, 2):
+                self.assertEqual(self.feeding.batch(seat.name, number, text, {}, True), done)
+            self.assertEqual((applied.call_count, self.board.advance.call_count), (2, 2))
+            self.assertIsNone(self.feeding.landed(seat.name, 3))
+            self.assertRaisesRegex(SessionClosed, "batch 3 was given up", self.feeding.batch, seat.name, 3, text, {}, True)
+            self.feeding.batch(seat.name, 4, text, {}, True)
+        self.feeding.let_go(seat.name)
+        self.assertEqual([self.feeding.landed(seat.name, it) for it in (3, 4, 5)], [None, done, None])
+        self.assertRaises(SessionClosed, self.feeding.batch, seat.name, 4, text, {}, True)
+        other = self.feeding.claim()
+        self.assertIsNone(self.feeding.landed(other.name, 1))
+        self.assertRaises(SessionClosed, self.feeding.landed, "nobody", 1)
+
     def test_records_that_are_seen_at_once(self):
         """Insertions and additions that keep every rule; all else is read one by one, with the same outcome."""
         lines = ["i,k,a,b,5,1", "a,l,a,c,-7,2", "a,k,c,a,0,999999999999999999"]
@@ -187,6 +205,24 @@ class Keepers(Case):
         kept.append(Keeper(str(self.room / "graph.gz")))
         kept[1].close()
         self.assertEqual([it._lock.closed for it in kept], [True, True])
+
+    def test_saves_by_a_clock(self):
+        """A version that the file has isn't saved again; one is late behind twice the time between two saves, and 30 s."""
+        clock, board = Clock(), mock.MagicMock()
+        session = board.lent.return_value.__enter__.return_value
+        session.save.side_effect = lambda *_, **__: setattr(clock, "now", clock.now + 2.5)
+        with mock.patch.object(keeping.time, "monotonic", clock):
+            clock.now = 1_000.0
+            keeper = Keeper(str(self.room / "graph.gz"), 60)
+            self.addCleanup(keeper.close)
+            for after, is_late in ((0, False), (150, False), (150.5, True)):
+                clock.now = 1_000.0 + after
+                self.assertEqual(keeper.is_late, is_late, after)
+            for version, count in ((3, 1), (3, 1), (4, 2)):
+                session.version = version
+                keeper.save(board)
+                self.assertEqual((session.save.call_count, keeper.took, keeper.is_late), (count, 2.5, False))
+                self.assertEqual(keeper.told(), {"version": version, "seconds": 0.0})
 
     def test_a_save_that_fails(self):
         keeper, board = Keeper(str(self.room / "graph.gz")), mock.Mock()
