@@ -241,7 +241,7 @@ class Keepers(Case):
 class Bells(unittest.TestCase):
     """Those who wait for a bell are woken long before their time is over."""
 
-    def waits(self, bell, is_there, seconds=60.0, gone=None, later=None):
+    def waits(self, bell, is_there, seconds=20.0, gone=None, later=None):
         """For how long one waits, where something comes a little later from another thread."""
         async def wait():
             left = None if gone is None else asyncio.get_running_loop().create_future()
@@ -259,19 +259,19 @@ class Bells(unittest.TestCase):
 
     def test_what_ends_a_wait(self):
         bell, rung = Bell(), []
-        self.assertLess(self.waits(bell, lambda: True), 30)
-        self.assertTrue(0.05 < self.waits(bell, lambda: rung, later=lambda: (rung.append(1), bell.ring())) < 30)
-        self.assertTrue(0.05 < self.waits(bell, lambda: False, 0.06) < 30)
-        self.assertTrue(0.05 < self.waits(bell, lambda: False, gone=0.06) < 30)
-        self.assertTrue(0.05 < self.waits(bell, lambda: False, later=bell.close) < 30)
+        self.assertLess(self.waits(bell, lambda: True), 15)
+        self.assertTrue(0.05 < self.waits(bell, lambda: rung, later=lambda: (rung.append(1), bell.ring())) < 15)
+        self.assertTrue(0.05 < self.waits(bell, lambda: False, 0.06) < 15)
+        self.assertTrue(0.05 < self.waits(bell, lambda: False, gone=0.06) < 15)
+        self.assertTrue(0.05 < self.waits(bell, lambda: False, later=bell.close) < 15)
         self.assertTrue(bell.is_over)
-        self.assertLess(self.waits(bell, lambda: False), 30)
+        self.assertLess(self.waits(bell, lambda: False), 15)
         bell.ring()  # (the loop is closed by now)
 
     def test_a_ring_for_nothing(self):
         """Who waits goes on where what it waits for isn't there yet."""
         bell = Bell()
-        self.assertTrue(0.2 < self.waits(bell, lambda: False, 0.25, later=bell.ring) < 30)
+        self.assertTrue(0.2 < self.waits(bell, lambda: False, 0.25, later=bell.ring) < 15)
 
     def test_what_a_reader_knows(self):
         for text, known in (("run:7", 7), ("run:0", 0), ("run:" + "9" * 19, 10**19 - 1), ("run:" + "1" * 20, -1), ("run:", -1),
