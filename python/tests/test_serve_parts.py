@@ -5,17 +5,22 @@ import time
 import unittest
 from unittest import mock
 
-from serving import HAS_PACKAGES, NO_PACKAGES, ServeCase
+from serving import HAS_PACKAGES, NO_PACKAGES, Clock, ServeCase
+from support import Case
 
-from misteluk import Stat
-from misteluk.errors import NotWritten
+from misteluk import Commit, SessionClosed, Stat, Store
+from misteluk.errors import FeedFault, NotWritten
 from misteluk.journal.compaction import FileCompacted
 from misteluk.journal.engine import Journaled
 from misteluk.journal.file import Kept
+from misteluk.serve import feeding, keeping, log
 from misteluk.serve.board import HeldVersion
+from misteluk.serve.feeding import Feeding
 from misteluk.serve.health import Health
+from misteluk.serve.keeping import Keeper
 from misteluk.serve.limits import ServerLimits
 from misteluk.serve.metrics import Counts
+from misteluk.serve.people import Person
 
 if HAS_PACKAGES:
     from misteluk.serve.flow import within
@@ -89,11 +94,154 @@ class Healths(unittest.TestCase):
         self.assertEqual((found["replica_behind_versions"], found["replica_behind_seconds"]), (3, 1.5))
 
 
+class Feedings(unittest.TestCase):
+    def setUp(self):
+        self.clock, self.board = Clock(), mock.Mock()
+        self.feeding = Feeding(self.board, ServerLimits(idle=60), self.clock)
+
+    def followed(self, **state):
+        """What is followed now."""
+        usual = {"behind": 7, "ended_half": False, "killed": 0, "is_replaced": False, "place.bad": 0, "place.rows": 0}
+        self.feeding._following = found = mock.Mock(**{**usual, **state}, last_bad=None)
+        self.feeding.state, found.name = "followed", "f.csv"
+        return found
+
+    def test_a_feed_that_fails(self):
+        """What nobody meant is logged with what led to it."""
+        for fault, word, is_meant in ((FeedFault("f.csv:3: why"), "FeedFault", True), (ValueError("why"), "ValueError", True),
+                                      (OSError("why"), "OSError", True), (KeyError("why"), "KeyError", False)):
+            self.setUp()
+            with mock.patch.object(log, "fault") as logged:
+                self.feeding._failed(self.followed(), fault)
+            reason = self.feeding.reason
+            logged.assert_called_once_with(f"the feed ended: {fault}", None if is_meant else fault, f"the feed ended: {reason}")
+            self.assertEqual((self.feeding.state, self.feeding.fault, "f.csv" in reason), ("failed", word, False))
+            self.assertEqual((self.board.store.discard.call_count, self.board.advance.call_count), (1, 1))
+            told = self.feeding.told()
+            self.assertEqual((told["state"], told["error"], told["reason"]), ("failed", word, reason))
+
+    def test_steps(self):
+        """Rows are counted from those that were in before."""
+        steps = [mock.Mock(rows=rows, commit=Commit(1, 0, 0, 0, 0, 0, 1, expired)) for rows, expired in ((130, 2), (135, 3))]
+        following = mock.MagicMock(**{"place.rows": 100})
+        following.__iter__.return_value = steps
+        self.feeding._steps(following)
+        self.assertEqual((self.feeding.rate.total, self.feeding.expired, self.board.advance.call_count), (35, 5, 2))
+
+    def test_a_file_that_is_read_at_first(self):
+        self.assertFalse(self.feeding.is_reading)
+        self.feeding._is_read = False
+        following = self.followed()
+        self.assertTrue(self.feeding.is_reading)
+        for following.behind in (0, 500):
+            self.assertFalse(self.feeding.is_reading)
+        self.setUp()
+        self.followed()
+        self.feeding.state = "ended"
+        self.assertFalse(self.feeding.is_reading)
+
+    def test_what_is_told(self):
+        self.assertEqual(self.feeding.told(), {"state": "open", "rows": 0, "rows_a_second": 0.0, "bad": 0, "expired": 0})
+        seat = self.feeding.claim(Person("ann", "feed"))
+        self.assertEqual([self.feeding.told()[it] for it in ("state", "by")], ["a client feeds", "ann"])
+        self.clock.now = 60.0
+        self.assertNotIn("by", self.feeding.told())
+        self.feeding.let_go(seat.name, Person("ann", "feed"))
+        self.followed(**{"ended_half": True, "killed": 2, "is_replaced": True, "place.bad": 3})
+        found = self.feeding.told()
+        self.assertEqual([found[it] for it in ("state", "bad", "behind", "half_line", "readers_killed", "replaced")],
+                         ["followed", 3, 7, True, 2, True])
+
+    def test_batches_by_their_numbers(self):
+        """Each is applied once; what the last one did is known also once its client has no seat; one given up can't come."""
+        done, text = Commit(1, 1, 0, 0, 0, 0), "a,k,x,y,5,1\n"
+        seat = self.feeding.claim()
+        with mock.patch.object(self.feeding, "_apply", return_value=done) as applied:
+            for number in (1, 1, 2, 2):
+                self.assertEqual(self.feeding.batch(seat.name, number, text, {}, True), done)
+            self.assertEqual((applied.call_count, self.board.advance.call_count), (2, 2))
+            self.assertIsNone(self.feeding.landed(seat.name, 3))
+            self.assertRaisesRegex(SessionClosed, "batch 3 was given up", self.feeding.batch, seat.name, 3, text, {}, True)
+            self.feeding.batch(seat.name, 4, text, {}, True)
+        self.feeding.let_go(seat.name)
+        self.assertEqual([self.feeding.landed(seat.name, it) for it in (3, 4, 5)], [None, done, None])
+        self.assertRaises(SessionClosed, self.feeding.batch, seat.name, 4, text, {}, True)
+        other = self.feeding.claim()
+        self.assertIsNone(self.feeding.landed(other.name, 1))
+        self.assertRaises(SessionClosed, self.feeding.landed, "nobody", 1)
+
+    def test_records_that_are_seen_at_once(self):
+        """Insertions and additions that keep every rule; all else is read one by one, with the same outcome."""
+        lines = ["i,k,a,b,5,1", "a,l,a,c,-7,2", "a,k,c,a,0,999999999999999999"]
+        rows = [(0, "k", "a", "b", 5, 1), (1, "l", "a", "c", -7, 2), (1, "k", "c", "a", 0, 10**18 - 1)]
+        self.assertEqual(feeding._plain_rows(lines), rows)
+        self.assertEqual(list(feeding.checked_operations("\n".join([*lines, ""])).rows), rows)
+        for more in ("r,k,a,b", "x,5", "a,*,a,b,5,1", 'a,k,"a",b,5,1', "a,k,,b,5,1", "a,k,a b,b,5,1", "a,k,a,b,x,1",
+                     "a,k,a,b,5,-1", "a,k,a,b,5", "a,k,a,b,5,1,1", "A,k,a,b,5,1", "", "a,k,a,b,1000000000000,1"):
+            self.assertIsNone(feeding._plain_rows([*lines, more]), more)
+        self.assertIsNone(feeding._plain_rows([]))
+
+
+class Keepers(Case):
+    def test_a_store_that_is_restored(self):
+        """With what is said; it begins anew, and its file has version 0."""
+        path = str(self.room / "graph.gz")
+        keeper = Keeper(path)
+        self.addCleanup(keeper.close)
+        self.assertEqual((keeper.restored(seats=3), keeper.told()), (None, {"version": None, "seconds": None}))
+        with self.store("add k a b 1 1") as store, store.open() as session:
+            session.save(path)
+        with mock.patch.object(Store, "compact", autospec=True, side_effect=Store.compact) as compacted:
+            store = keeper.restored(seats=3, blocks=None, endless=True)
+        self.addCleanup(self.let_go, store)
+        self.assertEqual((store.seats, store.stat().version, compacted.call_count), (3, 0, 1))
+        self.assertEqual((keeper.told()["version"], keeper.told()["seconds"] < 60), (0, True))
+
+    def test_its_end(self):
+        """Another one may save there then; what it holds is given back."""
+        kept = [Keeper(str(self.room / "graph.gz"))]
+        self.assertRaisesRegex(ValueError, "another server saves in", Keeper, str(self.room / "graph.gz"))
+        kept[0].close()
+        kept.append(Keeper(str(self.room / "graph.gz")))
+        kept[1].close()
+        self.assertEqual([it._lock.closed for it in kept], [True, True])
+
+    def test_saves_by_a_clock(self):
+        """A version that the file has isn't saved again; one is late behind twice the time between two saves, and 30 s."""
+        clock, board = Clock(), mock.MagicMock()
+        session = board.lent.return_value.__enter__.return_value
+        session.save.side_effect = lambda *_, **__: setattr(clock, "now", clock.now + 2.5)
+        with mock.patch.object(keeping.time, "monotonic", clock):
+            clock.now = 1_000.0
+            keeper = Keeper(str(self.room / "graph.gz"), 60)
+            self.addCleanup(keeper.close)
+            for after, is_late in ((0, False), (150, False), (150.5, True)):
+                clock.now = 1_000.0 + after
+                self.assertEqual(keeper.is_late, is_late, after)
+            for version, count in ((3, 1), (3, 1), (4, 2)):
+                session.version = version
+                keeper.save(board)
+                self.assertEqual((session.save.call_count, keeper.took, keeper.is_late), (count, 2.5, False))
+                self.assertEqual(keeper.told(), {"version": version, "seconds": 0.0})
+
+    def test_a_save_that_fails(self):
+        keeper, board = Keeper(str(self.room / "graph.gz")), mock.Mock()
+        self.addCleanup(keeper.close)
+        for fault, word, is_meant in ((OSError(28, "full"), "OSError", True), (NotWritten("why"), "NotWritten", True),
+                                      (KeyError("why"), "KeyError", False)):
+            board.lent.side_effect = fault
+            with mock.patch.object(log, "fault") as logged:
+                keeper.save(board)
+            self.assertEqual((keeper.fault, keeper.told()["state"], keeper.told()["error"]), (word, "failed", word))
+            logged.assert_called_once_with(f"the version isn't saved: {fault}", None if is_meant else fault,
+                                           f"the version isn't saved: {keeper.reason}")
+
+
 @unittest.skipUnless(HAS_PACKAGES, NO_PACKAGES)
 class Bells(unittest.TestCase):
     """Those who wait for a bell are woken long before their time is over."""
 
-    def waits(self, bell, is_there, seconds=60.0, gone=None, later=None):
+    def waits(self, bell, is_there, seconds=20.0, gone=None, later=None):
         """For how long one waits, where something comes a little later from another thread."""
         async def wait():
             left = None if gone is None else asyncio.get_running_loop().create_future()
@@ -111,19 +259,19 @@ class Bells(unittest.TestCase):
 
     def test_what_ends_a_wait(self):
         bell, rung = Bell(), []
-        self.assertLess(self.waits(bell, lambda: True), 30)
-        self.assertTrue(0.05 < self.waits(bell, lambda: rung, later=lambda: (rung.append(1), bell.ring())) < 30)
-        self.assertTrue(0.05 < self.waits(bell, lambda: False, 0.06) < 30)
-        self.assertTrue(0.05 < self.waits(bell, lambda: False, gone=0.06) < 30)
-        self.assertTrue(0.05 < self.waits(bell, lambda: False, later=bell.close) < 30)
+        self.assertLess(self.waits(bell, lambda: True), 15)
+        self.assertTrue(0.05 < self.waits(bell, lambda: rung, later=lambda: (rung.append(1), bell.ring())) < 15)
+        self.assertTrue(0.05 < self.waits(bell, lambda: False, 0.06) < 15)
+        self.assertTrue(0.05 < self.waits(bell, lambda: False, gone=0.06) < 15)
+        self.assertTrue(0.05 < self.waits(bell, lambda: False, later=bell.close) < 15)
         self.assertTrue(bell.is_over)
-        self.assertLess(self.waits(bell, lambda: False), 30)
+        self.assertLess(self.waits(bell, lambda: False), 15)
         bell.ring()  # (the loop is closed by now)
 
     def test_a_ring_for_nothing(self):
         """Who waits goes on where what it waits for isn't there yet."""
         bell = Bell()
-        self.assertTrue(0.2 < self.waits(bell, lambda: False, 0.25, later=bell.ring) < 30)
+        self.assertTrue(0.2 < self.waits(bell, lambda: False, 0.25, later=bell.ring) < 15)
 
     def test_what_a_reader_knows(self):
         for text, known in (("run:7", 7), ("run:0", 0), ("run:" + "9" * 19, 10**19 - 1), ("run:" + "1" * 20, -1), ("run:", -1),

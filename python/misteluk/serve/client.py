@@ -156,6 +156,7 @@ class ServedEngine:
             self.units, self.idle = Units(**told["units"]), float(told["limits"]["idle"])
             talk.most_body = int(told["limits"]["body"])
         except (KeyError, TypeError):
+            talk.close()
             raise StoreError(f"{talk.url} is no server of a store") from None
         # The texts of names that go as ids, which the store's terms share.
         self.names = NameTable()
