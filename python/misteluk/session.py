@@ -402,7 +402,7 @@ class Session(Generic[W, T]):
         With `directed=False` a walk follows edges in either direction. `ValueError`: `hops` is less than 0.
 
         >>> session.neighborhood("bonn", 1, directed=False)
-        {'bonn': 0, 'hanau': 1}
+        {'hanau': 1, 'bonn': 0}
         """
         if operator.index(hops) < 0:
             raise ValueError(f"hops is 0 or more, and not {hops}")
