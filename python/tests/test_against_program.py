@@ -320,7 +320,7 @@ class Comparison(Case):
                 ("successors", lambda session, source, *_: right["successors"](session, source)),
                 ("diff", lambda session, later, *given: right["diff"](later, session, *given))):
             with self.subTest(name), mock.patch.object(Session, name, planted):
-                self.assertTrue(any(self.play(seed, 4) for seed in range(3)))
+                self.assertTrue(any(self.play(seed, 4) for seed in range(12)))
 
     def test_the_run_ends_as_it_is_to(self):
         run = Run()

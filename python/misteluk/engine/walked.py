@@ -10,6 +10,7 @@ from .calling import Known, address, check, room
 from .guard import Owned
 from .interface import Code, Library
 from .protocol import Scope
+from ..errors import SessionClosed
 
 if TYPE_CHECKING:
     from .held import Kept
@@ -23,6 +24,7 @@ class Walked:
 
     kept: "Kept"
     count: int
+    number: int
     _library: Library
     _known: Known
     _first: Owned
@@ -58,5 +60,8 @@ class Walked:
         """Has each handle that is copied from now on know the edges by their targets. Those of before go."""
         if not self.kept.is_indexed:
             with self._known.lock:
-                check(self._library.version_index(self._first.raw))
+                code = self._library.version_index(self._first.raw)
+            if code == Code.NO_HANDLE:  # (another thread closed it)
+                raise SessionClosed(f"the session of version {self.number} is closed")
+            check(code)
             self.kept.idle, self.kept.is_indexed = [], True
