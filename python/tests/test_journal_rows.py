@@ -8,13 +8,14 @@ from support import Case
 from misteluk import Limits
 from misteluk.engine.operations import Operations, Post
 from misteluk.errors import JournalFault, SequenceTaken
+from misteluk.feeds.steps import FeedMark, FeedPlace
 from misteluk.journal import beside, scripts
 from misteluk.journal.beside import Beside
 from misteluk.journal.opening import make_engine
 from misteluk.journal.passing import Passing
 from misteluk.journal.recovery import State
 from misteluk.journal.replica import Added, Copy
-from misteluk.journal.sources import Sources
+from misteluk.journal.sources import MOST_FILES, Sources
 from misteluk.journal.tables import Settings, Written
 from misteluk.values.answers import Commit
 
@@ -70,11 +71,19 @@ class Sent(Case):
         sources = Sources()
         sources.take(self.written(1, b"x"), self.FIRST)
         self.assertEqual(sources, Sources())
-        sources.take(self.written(1, b"x", feed='["a.csv", 5]'), self.FIRST)
-        sources.take(self.written(2, b"x", "p", 1, feed='["b.csv", 7]'), self.FIRST)
-        sources.take(self.written(3, b"x", feed='["a.csv", 6]'), self.FIRST)
-        self.assertEqual((sources.feeds, list(sources.producers)), ({"a.csv": '["a.csv", 6]', "b.csv": '["b.csv", 7]'}, ["p"]))
+        first, other, second, next_one, last = (
+            FeedMark(path, (1, 2), 0, turn=turn).written(FeedPlace(rows)) for path, turn, rows in (
+                ("a.csv", 0, 5), ("b.csv", 0, 7), ("a.csv", 0, 6), ("a.csv", 1, 1), ("a.csv", MOST_FILES, 1)))
+        sources.take(self.written(1, b"x", feed=first), self.FIRST)
+        sources.take(self.written(2, b"x", "p", 1, feed=other), self.FIRST)
+        sources.take(self.written(3, b"x", feed=second), self.FIRST)
+        self.assertEqual((sources.feeds, list(sources.producers)), ({"0 a.csv": second, "0 b.csv": other}, ["p"]))
         self.assertEqual(Sources.read(sources.written()), sources)
+        # The files before this one of the same path are known, but for one from long ago.
+        sources.take(self.written(4, b"x", feed=next_one), self.FIRST)
+        self.assertEqual(sources.feeds, {"0 a.csv": second, "0 b.csv": other, "1 a.csv": next_one})
+        sources.take(self.written(5, b"x", feed=last), self.FIRST)
+        self.assertEqual(sources.feeds, {"0 b.csv": other, "1 a.csv": next_one, f"{MOST_FILES} a.csv": last})
 
 
 class Due(unittest.TestCase):
