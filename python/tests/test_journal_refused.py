@@ -187,6 +187,24 @@ class Failed(JournalCase):
                     self.assertEqual(put(store, batch(4), producer="feed", sequence=4).version, 4)
                     self.assertEqual(told(store), Model().upto(4).told())
 
+    def test_pages_that_the_disk_doesn_t_take_back(self):
+        """As where a sync fails amid it, which SQLite doesn't say then: a compaction ends nevertheless."""
+        with self.fed(40) as store:
+            journal = store._engine._journal
+            with mock.patch.object(Journal, "shrink", return_value=False):
+                store.file.compact()
+                put(store, batch(41))
+                store.file.compact(history=0)
+            self.assertGreater(journal._free(), 0)
+            silent = mock.Mock(wraps=journal.opened)
+            silent.execute = lambda words: journal_opened.execute("SELECT 1" if "incremental_vacuum" in words else words)
+            journal_opened = journal.opened
+            with mock.patch.object(journal, "opened", silent):
+                self.assertFalse(journal.shrink())
+            while journal.shrink():
+                pass
+            self.assertEqual(journal._free(), 0)
+
     def test_a_file_that_is_gone(self):
         for name in ("graph.db", "graph.db-wal"):
             store = self.fed(2)

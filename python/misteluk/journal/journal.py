@@ -169,13 +169,18 @@ class Journal:
                 self.settings = settings
 
     def shrink(self) -> bool:
-        """Gives some of the pages that nothing uses back to the disk, and tells whether there are more. (Where that fails they
-        are used for what comes.)"""
+        """Gives some of the pages that nothing uses back to the disk, and tells whether there are more. (Where that fails, which
+        SQLite doesn't always say, they are used for what comes.)"""
         with self._alone, suppress(sqlite3.Error):
+            before = self._free()
             self.opened.execute(f"PRAGMA incremental_vacuum({AT_ONCE})").fetchall()
-            left: int = self.opened.execute("PRAGMA freelist_count").fetchone()[0]
-            return left > 0
+            return 0 < self._free() < before
         return False
+
+    def _free(self) -> int:
+        """How many pages nothing uses."""
+        found: int = self.opened.execute("PRAGMA freelist_count").fetchone()[0]
+        return found
 
     @property
     def size(self) -> int:
