@@ -1,4 +1,6 @@
 """Files whose fields numpy reads at once hold what they hold where each field is a text of its own."""
+import csv
+import io
 import random
 import unittest
 from array import array
@@ -62,6 +64,65 @@ class OfAFile(Case):
 
     def test_a_quoted_field_that_goes_on(self):
         self.must_agree('a,b,1,0\n"a\nc",b,1,0\na,b,1,0\n')
+
+    def differ(self, seeds):
+        """How many files have other rows than Python's `csv` gives, and of how many texts quotes were taken off at once."""
+        count, quick, right = 0, [], fields._unquote
+        with mock.patch.object(fields, "MANY", 0), mock.patch.object(fields, "_unquote", lambda *of: (
+                quick.append(right(*of)) or quick[-1])):
+            for seed in seeds:
+                made = random.Random(seed)
+                sign, end = made.choice(",;\t|"), made.choice(("\n", "\n", "\r\n", "\r"))
+                pieces = made.choice((("a", "b c", ""), ("a", "b", f'"x{sign}y"', '""', '"é"'), ("é", '"1"', '"Ж"', "ab"),
+                                      ("a", "é", '"', '""', "\n", "\r\n", "\r", sign, '"a"', '"\n"')))
+                lines = [sign.join(made.choice(("", *pieces)) + made.choice(("", "", *pieces)) * (made.random() < 0.1)
+                                   for _ in range(2 if made.random() < 0.97 else made.randrange(5)))
+                         for _ in range(made.choice((1, 4, 12)))]
+                text = made.choice(("", "", "\ufeff")) + end.join([f"p{sign}q", *lines]) + made.choice(("", end, end * 2))
+                count += self.rows(text, sign, made.choice((1, 20, 1 << 20))) != self.by_csv(text, sign)
+        return count, sum(quick)
+
+    def rows(self, text, sign, at_once):
+        path = self.room / "rows.csv"
+        path.write_bytes(text.encode())
+        with mock.patch.object(delimited, "AT_ONCE", at_once):
+            return list(delimited.delimited(path, Columns(1, 2), delimiter=sign).rows)
+
+    def by_csv(self, text, sign):
+        """The same by Python's csv, one after another, blank lines left out and missing fields empty."""
+        reader = csv.reader(io.StringIO(text.removeprefix("\ufeff"), newline=""), delimiter=sign)
+        return [(reader.line_num, "link", *[*row, ""][:2], "1", "0") for row in reader if row]
+
+    def test_any_file_is_read_as_csv_reads_it(self):
+        count, quick = self.differ(range(2_000))
+        self.assertEqual(count, 0)
+        self.assertGreater(quick, 200)
+
+    def test_faults_of_quotes_are_found(self):
+        def always(numpy, data, begins, ends):
+            is_quoted = data[begins] == ord('"')
+            begins += is_quoted
+            ends -= is_quoted
+            return True
+        for name, fault in (("_unquote", always), ("_unquote", lambda *_: True), ("CODEC", ("utf-8", "replace")),
+                            ("CODEC", ("utf-16", "surrogatepass"))):
+            with self.subTest(name), mock.patch.object(fields, name, fault):
+                try:
+                    found = self.differ(range(60))[0] if name == "_unquote" else self.texts_differ()
+                except UnicodeError:  # (a text was cut amid a letter)
+                    found = 1
+                self.assertGreater(found, 0)
+
+    def texts_differ(self):
+        """Whether a name that isn't in ASCII, or bytes that are no text, become others."""
+        path = self.room / "rows.csv"
+        path.write_bytes("é,Ж\n".encode() + b"\xff\xc3,b\n")
+        with mock.patch.object(fields, "MANY", 0):
+            found = [it[2:4] for it in delimited.delimited(path, Columns(1, 2)).rows]
+        return found != [("é", "Ж"), ("\udcff\udcc3", "b")]
+
+    def test_texts_that_are_not_in_ascii(self):
+        self.assertFalse(self.texts_differ())
 
     def test_texts_that_are_mixed_to_one(self):
         """A sum that all have leaves each to stand for itself."""
@@ -140,7 +201,7 @@ class Numbers(unittest.TestCase):
 
 class OfAFeed(unittest.TestCase):
     def test_an_empty_column_has_none(self):
-        self.assertIsNone(fields.fields_of("a,b\n", ",", 2))
+        self.assertIsNone(fields.fields_of("a,b\n", ","))
 
 
 if __name__ == "__main__":

@@ -75,16 +75,16 @@ def _blocks_of(picked: "Picked", text: str, file: Iterable[str], sign: str, line
 
 
 def even_columns(text: str, sign: str) -> Sequence[Sequence[str]]:
-    """The columns of whole lines that have no quotes and as many fields each: nearly all files are such, and are split at once.
-    Of other lines none."""
+    """The columns of whole lines that have as many fields each, and plain ones within quotes: nearly all files are such, and are
+    split at once. Of other lines none."""
     text = text.replace("\r\n", "\n") if "\r" in text else text
     text = text if text.endswith("\n") else f"{text}\n"
-    width = text[:text.index("\n")].count(sign) + 1
-    if width == 1 or not sign.isascii() or '"' in text or "\r" in text:
+    if not sign.isascii() or "\r" in text:
         return []
-    found = fields_of(text, sign, width)
-    if found is not None:
-        return found
+    found = fields_of(text, sign)
+    width = text[:text.index("\n")].count(sign) + 1
+    if found is not None or width == 1 or '"' in text:
+        return found or []
     others = bytes(set(range(256)) - {ord(sign), ord("\n")})
     ends = text.encode("utf-8", "surrogateescape").translate(None, others)
     if ends != (sign * (width - 1) + "\n").encode("ascii") * text.count("\n"):

@@ -6,7 +6,7 @@ import io
 import re
 import sys
 from array import array
-from typing import TYPE_CHECKING, Any, Iterator, List, Optional, Sequence
+from typing import TYPE_CHECKING, Any, Iterator, List, Optional, Sequence, Union
 
 from .columns import FieldColumn, NumbersOf, whole
 
@@ -16,6 +16,8 @@ if TYPE_CHECKING:
 # From how many items on numpy is worth to be loaded; how many bytes a field may have that is compared in words of eight; by what
 # a word is multiplied before the next one is mixed in; and how often texts that fall together are tried once more.
 MANY, MOST_BYTES, MIX, MOST_TURNS = 50_000, 64, 0x9E37_79B9_7F4A_7C15, 12
+# How a text that isn't in ASCII is bytes here, whatever is in it.
+CODEC = ("utf-8", "surrogatepass")
 # Eight digits as one word: zeros; what makes a sign past nine have its top bit; and how digits become pairs of them, and so on.
 ZEROS, PAST_NINE, TOP_BITS = 0x3030_3030_3030_3030, 0x7676_7676_7676_7676, 0x8080_8080_8080_8080
 PAIRS = ((0x0F0F_0F0F_0F0F_0F0F, 10 << 8 | 1, 8), (0x00FF_00FF_00FF_00FF, 100 << 16 | 1, 16),
@@ -37,9 +39,10 @@ def numpy_for(count: int, where_loaded: Optional[int] = None) -> Any:
 
 
 class Fields(FieldColumn):
-    """A column of fields within one text: the texts, once somebody goes through them, and else where each begins and ends."""
+    """A column of fields within one text: the texts, once somebody goes through them, and else where each begins and ends. The
+    text is one in ASCII, or the bytes of another."""
 
-    def __init__(self, text: str, data: Any, begins: Any, ends: Any) -> None:
+    def __init__(self, text: Union[str, bytes], data: Any, begins: Any, ends: Any) -> None:
         self._text, self._data, self._begins, self._ends = text, data, begins, ends
         self._texts: Optional[List[str]] = None
 
@@ -50,8 +53,10 @@ class Fields(FieldColumn):
         return self._texts
 
     def _texts_at(self, places: Any) -> List[str]:
-        bounds = map(slice, self._begins[places].tolist(), self._ends[places].tolist())
-        return list(map(self._text.__getitem__, bounds))
+        bounds, text = map(slice, self._begins[places].tolist(), self._ends[places].tolist()), self._text
+        if isinstance(text, str):
+            return list(map(text.__getitem__, bounds))
+        return [it.decode(*CODEC) for it in map(text.__getitem__, bounds)]
 
     def __len__(self) -> int:
         return len(self._begins)
@@ -167,21 +172,47 @@ def _field_of_csv(text: str) -> str:
     return line.getvalue()[:-2]
 
 
-def data_of(numpy: Any, text: str) -> Any:
-    """The bytes of a text in ASCII, as `Fields` reads them: with room behind the last one."""
-    return numpy.frombuffer(text.encode("ascii") + bytes(MOST_BYTES + 8), dtype="uint8")
+def data_of(numpy: Any, text: Union[str, bytes]) -> Any:
+    """The bytes of a text as `Fields` reads them: with room behind the last one."""
+    data = text.encode("ascii") if isinstance(text, str) else text
+    return numpy.frombuffer(data + bytes(MOST_BYTES + 8), dtype="uint8")
 
 
-def fields_of(text: str, sign: str, width: int) -> Optional[List[Fields]]:
-    """The columns of a text's lines, of which each ends in a line feed and has so many fields; none where one has more or less.
-    `None` where the text isn't plain ASCII, and where numpy isn't there, or isn't worth to be loaded."""
-    numpy = numpy_for(len(text)) if text.isascii() else None
+def fields_of(text: str, sign: str) -> Optional[List[Fields]]:
+    """The columns of a text's lines, of which each ends in a line feed and has as many fields as the first, two or more; none
+    where one has more or less, and where quotes stand amid a field, or around a sign that ends one. `None` where numpy isn't
+    there, or isn't worth to be loaded."""
+    numpy = numpy_for(len(text))
     if numpy is None:
         return None
-    data = data_of(numpy, text)
-    ends = numpy.flatnonzero((data == ord(sign)) | (data == ord("\n")))
+    held: Union[str, bytes] = text if text.isascii() else text.encode(*CODEC)
+    data, quotes = data_of(numpy, held), '"' in text
+    is_line = data == ord("\n")
+    is_end = (data == ord(sign)) | is_line
+    if quotes:  # (a sign within quotes comes behind an odd number of them)
+        is_within = numpy.cumsum(data == ord('"'), dtype="uint8") & 1 == 1
+        if (is_line & is_within).any():
+            return []
+        is_end &= ~is_within
+    ends = numpy.flatnonzero(is_end)
+    width = int(is_line[ends].argmax()) + 1
     signs = numpy.frombuffer((sign * (width - 1) + "\n").encode("ascii"), dtype="uint8")
-    if len(ends) % width or (data[ends].reshape(-1, width) != signs).any():
+    if width == 1 or len(ends) % width or (data[ends].reshape(-1, width) != signs).any():
         return []
     begins = numpy.concatenate([[0], ends[:-1] + 1])
-    return [Fields(text, data, *it) for it in zip(begins.reshape(-1, width).T, ends.reshape(-1, width).T)]
+    if quotes and not _unquote(numpy, data, begins, ends):
+        return []
+    return [Fields(held, data, *it) for it in zip(begins.reshape(-1, width).T, ends.reshape(-1, width).T)]
+
+
+def _unquote(numpy: Any, data: Any, begins: Any, ends: Any) -> bool:
+    """Takes fields out of the quotes around them, where no other quotes are there, as one doubled, and no field is so long that
+    Python's `csv` refuses it."""
+    is_quoted = data[begins] == ord('"')
+    is_closed = (data[ends - 1] == ord('"')) & (ends - begins >= 2)
+    count = numpy.count_nonzero(is_quoted)
+    if (is_quoted & ~is_closed).any() or 2 * count != numpy.count_nonzero(data == ord('"')):
+        return False
+    begins += is_quoted
+    ends -= is_quoted
+    return bool((ends - begins).max() <= csv.field_size_limit())
