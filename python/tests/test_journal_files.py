@@ -113,8 +113,11 @@ class Opened(JournalCase):
                 for _ in range(2):
                     store.add("k", "Анна", "b")
                     store.commit()
-        self.assertEqual([it is None for it, in self.rows("SELECT texts FROM batches ORDER BY version")],
-                         [False, True, True, True])
+        with self.opened() as store:  # (a table of its own has it too)
+            store.load(survey([("Анна", "b"), ("Ж Ж", "b")], by="add"), by="add")
+        *before, last = [it for it, in self.rows("SELECT texts FROM batches ORDER BY version")]
+        self.assertEqual([it is None for it in before], [False, True, True, True])
+        self.assertEqual(list(json.loads(last).values()), ["Ж Ж"])
 
     def test_names_of_a_survey_made_apart(self):
         """Whose table has texts of its own, beside those that the store has by then."""
