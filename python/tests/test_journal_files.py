@@ -15,6 +15,7 @@ from misteluk import Columns, Limits, Store, StoreError, Units, survey
 from misteluk.engine.protocol import WHOLE
 from misteluk.engine.waiting import WaitingEngine
 from misteluk.errors import JournalFault, NotWritten, OverLimit
+from misteluk.feeds.steps import FeedMark, FeedPlace
 from misteluk.journal import checking, journal, tables
 from misteluk.journal.checking import check
 from misteluk.journal.logs import log
@@ -137,14 +138,14 @@ class Opened(JournalCase):
 
     def test_how_far_feeds_are_in(self):
         """By the batches, and by a base."""
-        told = '["a.csv", 5]'
+        told = FeedMark("/a.csv", (1, 2), 0, turn=3).written(FeedPlace(done=5))
         with self.opened() as store:
             store.insert("k", "a", "b")
             store._ledger.commit(True, 10, told)
-            self.assertEqual(store._engine.feeds, {"a.csv": told})
+            self.assertEqual(store._engine.feeds, {"3 /a.csv": told})
         for _ in range(2):
             with self.opened() as store:
-                self.assertEqual(store._engine.feeds, {"a.csv": told})
+                self.assertEqual(store._engine.feeds, {"3 /a.csv": told})
                 store.file.compact()
         self.assertEqual((store.file.recovered.base, self.rows("SELECT feed FROM batches")), (1, [(told,)]))
 

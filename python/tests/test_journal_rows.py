@@ -8,6 +8,7 @@ from support import Case
 from misteluk import Limits
 from misteluk.engine.operations import Operations, Post
 from misteluk.errors import JournalFault, SequenceTaken
+from misteluk.feeds.steps import FeedMark, FeedPlace
 from misteluk.journal import beside, scripts
 from misteluk.journal.beside import Beside
 from misteluk.journal.opening import make_engine
@@ -67,14 +68,17 @@ class Sent(Case):
         self.assertEqual([it for _, it in sources.keys], ["key 2", "key 3", "key 4"])
 
     def test_feeds(self):
+        """How far each file is in, by the turn in which it was followed."""
+        def mark(path, turn, done):
+            return FeedMark(path, (1, turn), 0, turn=turn).written(FeedPlace(done=done))
         sources = Sources()
         sources.take(self.written(1, b"x"), self.FIRST)
         self.assertEqual(sources, Sources())
-        sources.take(self.written(1, b"x", feed='["a.csv", 5]'), self.FIRST)
-        sources.take(self.written(2, b"x", "p", 1, feed='["b.csv", 7]'), self.FIRST)
-        sources.take(self.written(3, b"x", feed='["a.csv", 6]'), self.FIRST)
-        self.assertEqual((sources.feeds, list(sources.producers)), ({"a.csv": '["a.csv", 6]', "b.csv": '["b.csv", 7]'}, ["p"]))
-        self.assertEqual(Sources.read(sources.written()), sources)
+        for version, path, turn, done in ((1, "/a.csv", 1, 5), (2, "/b.csv", 1, 7), (3, "/a.csv", 1, 6), (4, "/a.csv", 2, 1)):
+            sources.take(self.written(version, b"x", *(["p", 1] if version == 2 else []), feed=mark(path, turn, done)), self.FIRST)
+        self.assertEqual(sources.feeds, {"1 /a.csv": mark("/a.csv", 1, 6), "1 /b.csv": mark("/b.csv", 1, 7),
+                                         "2 /a.csv": mark("/a.csv", 2, 1)})
+        self.assertEqual((list(sources.producers), Sources.read(sources.written())), (["p"], sources))
 
 
 class Due(unittest.TestCase):
