@@ -75,7 +75,8 @@ class Sent(Case):
         sources.take(self.written(1, b"x"), self.FIRST)
         self.assertEqual(sources, Sources())
         for version, path, turn, done in ((1, "/a.csv", 1, 5), (2, "/b.csv", 1, 7), (3, "/a.csv", 1, 6), (4, "/a.csv", 2, 1)):
-            sources.take(self.written(version, b"x", *(["p", 1] if version == 2 else []), feed=mark(path, turn, done)), self.FIRST)
+            whose = ("p", 1) if version == 2 else ()
+            sources.take(self.written(version, b"x", *whose, feed=mark(path, turn, done)), self.FIRST)
         self.assertEqual(sources.feeds, {"1 /a.csv": mark("/a.csv", 1, 6), "1 /b.csv": mark("/b.csv", 1, 7),
                                          "2 /a.csv": mark("/a.csv", 2, 1)})
         self.assertEqual((list(sources.producers), Sources.read(sources.written())), (["p"], sources))
