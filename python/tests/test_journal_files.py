@@ -114,8 +114,11 @@ class Opened(JournalCase):
                 for _ in range(2):
                     store.add("k", "Анна", "b")
                     store.commit()
-        self.assertEqual([it is None for it, in self.rows("SELECT texts FROM batches ORDER BY version")],
-                         [False, True, True, True])
+        with self.opened() as store:  # (a table of its own has it too)
+            store.load(survey([("Анна", "b"), ("Ж Ж", "b")], by="add"), by="add")
+        *before, last = [it for it, in self.rows("SELECT texts FROM batches ORDER BY version")]
+        self.assertEqual([it is None for it in before], [False, True, True, True])
+        self.assertEqual(list(json.loads(last).values()), ["Ж Ж"])
 
     def test_names_of_a_survey_made_apart(self):
         """Whose table has texts of its own, beside those that the store has by then."""
@@ -135,14 +138,14 @@ class Opened(JournalCase):
 
     def test_how_far_feeds_are_in(self):
         """By the batches, and by a base."""
-        told = FeedMark("a.csv", (1, 2), 0).written(FeedPlace(rows=5))
+        told = FeedMark("/a.csv", (1, 2), 0, turn=3).written(FeedPlace(done=5))
         with self.opened() as store:
             store.insert("k", "a", "b")
             store._ledger.commit(True, 10, told)
-            self.assertEqual(store._engine.feeds, {"0 a.csv": told})
+            self.assertEqual(store._engine.feeds, {"3 /a.csv": told})
         for _ in range(2):
             with self.opened() as store:
-                self.assertEqual(store._engine.feeds, {"0 a.csv": told})
+                self.assertEqual(store._engine.feeds, {"3 /a.csv": told})
                 store.file.compact()
         self.assertEqual((store.file.recovered.base, self.rows("SELECT feed FROM batches")), (1, [(told,)]))
 

@@ -15,7 +15,7 @@ from misteluk.journal.opening import make_engine
 from misteluk.journal.passing import Passing
 from misteluk.journal.recovery import State
 from misteluk.journal.replica import Added, Copy
-from misteluk.journal.sources import MOST_FILES, Sources
+from misteluk.journal.sources import Sources
 from misteluk.journal.tables import Settings, Written
 from misteluk.values.answers import Commit
 
@@ -68,22 +68,18 @@ class Sent(Case):
         self.assertEqual([it for _, it in sources.keys], ["key 2", "key 3", "key 4"])
 
     def test_feeds(self):
+        """How far each file is in, by the turn in which it was followed."""
+        def mark(path, turn, done):
+            return FeedMark(path, (1, turn), 0, turn=turn).written(FeedPlace(done=done))
         sources = Sources()
         sources.take(self.written(1, b"x"), self.FIRST)
         self.assertEqual(sources, Sources())
-        first, other, second, next_one, last = (
-            FeedMark(path, (1, 2), 0, turn=turn).written(FeedPlace(rows)) for path, turn, rows in (
-                ("a.csv", 0, 5), ("b.csv", 0, 7), ("a.csv", 0, 6), ("a.csv", 1, 1), ("a.csv", MOST_FILES, 1)))
-        sources.take(self.written(1, b"x", feed=first), self.FIRST)
-        sources.take(self.written(2, b"x", "p", 1, feed=other), self.FIRST)
-        sources.take(self.written(3, b"x", feed=second), self.FIRST)
-        self.assertEqual((sources.feeds, list(sources.producers)), ({"0 a.csv": second, "0 b.csv": other}, ["p"]))
-        self.assertEqual(Sources.read(sources.written()), sources)
-        # The files before this one of the same path are known, but for one from long ago.
-        sources.take(self.written(4, b"x", feed=next_one), self.FIRST)
-        self.assertEqual(sources.feeds, {"0 a.csv": second, "0 b.csv": other, "1 a.csv": next_one})
-        sources.take(self.written(5, b"x", feed=last), self.FIRST)
-        self.assertEqual(sources.feeds, {"0 b.csv": other, "1 a.csv": next_one, f"{MOST_FILES} a.csv": last})
+        for version, path, turn, done in ((1, "/a.csv", 1, 5), (2, "/b.csv", 1, 7), (3, "/a.csv", 1, 6), (4, "/a.csv", 2, 1)):
+            whose = ("p", 1) if version == 2 else ()
+            sources.take(self.written(version, b"x", *whose, feed=mark(path, turn, done)), self.FIRST)
+        self.assertEqual(sources.feeds, {"1 /a.csv": mark("/a.csv", 1, 6), "1 /b.csv": mark("/b.csv", 1, 7),
+                                         "2 /a.csv": mark("/a.csv", 2, 1)})
+        self.assertEqual((list(sources.producers), Sources.read(sources.written())), (["p"], sources))
 
 
 class Due(unittest.TestCase):

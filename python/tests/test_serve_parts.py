@@ -13,7 +13,7 @@ from misteluk.errors import FeedFault, NotWritten
 from misteluk.journal.compaction import FileCompacted
 from misteluk.journal.engine import Journaled
 from misteluk.journal.file import Kept
-from misteluk.serve import feeding, keeping, log
+from misteluk.serve import checking, keeping, log
 from misteluk.serve.board import HeldVersion
 from misteluk.serve.feeding import Feeding
 from misteluk.serve.health import Health
@@ -96,14 +96,14 @@ class Healths(unittest.TestCase):
 
 class Feedings(unittest.TestCase):
     def setUp(self):
-        self.clock, self.board = Clock(), mock.Mock()
+        self.clock, self.board = Clock(), mock.MagicMock()
         self.feeding = Feeding(self.board, ServerLimits(idle=60), self.clock)
 
     def followed(self, **state):
         """What is followed now."""
         usual = {"behind": 7, "ended_half": False, "killed": 0, "is_replaced": False, "place.bad": 0, "place.rows": 0}
-        self.feeding._following = found = mock.Mock(**{**usual, **state}, last_bad=None)
-        self.feeding.state, found.name = "followed", "f.csv"
+        self.feeding.readers.last = found = mock.Mock(**{**usual, **state}, last_bad=None)
+        self.feeding.readers._all, self.feeding.state, found.name = [found], "followed", "f.csv"
         return found
 
     def test_a_feed_that_fails(self):
@@ -112,7 +112,7 @@ class Feedings(unittest.TestCase):
                                       (OSError("why"), "OSError", True), (KeyError("why"), "KeyError", False)):
             self.setUp()
             with mock.patch.object(log, "fault") as logged:
-                self.feeding._failed(self.followed(), fault)
+                self.feeding._ended(self.followed(), fault)
             reason = self.feeding.reason
             logged.assert_called_once_with(f"the feed ended: {fault}", None if is_meant else fault, f"the feed ended: {reason}")
             self.assertEqual((self.feeding.state, self.feeding.fault, "f.csv" in reason), ("failed", word, False))
@@ -120,13 +120,19 @@ class Feedings(unittest.TestCase):
             told = self.feeding.told()
             self.assertEqual((told["state"], told["error"], told["reason"]), ("failed", word, reason))
 
+    def test_a_feed_that_ends(self):
+        with mock.patch.object(log, "fault") as logged:
+            self.feeding._ended(self.followed(), None)
+        self.assertEqual((self.feeding.state, self.feeding.fault, logged.call_count), ("ended", "", 0))
+
     def test_steps(self):
         """Rows are counted from those that were in before."""
-        steps = [mock.Mock(rows=rows, commit=Commit(1, 0, 0, 0, 0, 0, 1, expired)) for rows, expired in ((130, 2), (135, 3))]
-        following = mock.MagicMock(**{"place.rows": 100})
-        following.__iter__.return_value = steps
-        self.feeding._steps(following)
+        following = mock.MagicMock(**{"place.rows": 100, "is_left": False})
+        following.__iter__.return_value = [mock.Mock(rows=rows, commit=Commit(1, 0, 0, 0, 0, 0, 1, expired))
+                                           for rows, expired in ((130, 2), (135, 3))]
+        self.feeding.readers._steps(following)
         self.assertEqual((self.feeding.rate.total, self.feeding.expired, self.board.advance.call_count), (35, 5, 2))
+        self.assertEqual(self.feeding.readers.late, 0)
 
     def test_a_file_that_is_read_at_first(self):
         self.assertFalse(self.feeding.is_reading)
@@ -174,12 +180,12 @@ class Feedings(unittest.TestCase):
         """Insertions and additions that keep every rule; all else is read one by one, with the same outcome."""
         lines = ["i,k,a,b,5,1", "a,l,a,c,-7,2", "a,k,c,a,0,999999999999999999"]
         rows = [(0, "k", "a", "b", 5, 1), (1, "l", "a", "c", -7, 2), (1, "k", "c", "a", 0, 10**18 - 1)]
-        self.assertEqual(feeding._plain_rows(lines), rows)
-        self.assertEqual(list(feeding.checked_operations("\n".join([*lines, ""])).rows), rows)
+        self.assertEqual(checking._plain_rows(lines), rows)
+        self.assertEqual(list(checking.checked_operations("\n".join([*lines, ""])).rows), rows)
         for more in ("r,k,a,b", "x,5", "a,*,a,b,5,1", 'a,k,"a",b,5,1', "a,k,,b,5,1", "a,k,a b,b,5,1", "a,k,a,b,x,1",
                      "a,k,a,b,5,-1", "a,k,a,b,5", "a,k,a,b,5,1,1", "A,k,a,b,5,1", "", "a,k,a,b,1000000000000,1"):
-            self.assertIsNone(feeding._plain_rows([*lines, more]), more)
-        self.assertIsNone(feeding._plain_rows([]))
+            self.assertIsNone(checking._plain_rows([*lines, more]), more)
+        self.assertIsNone(checking._plain_rows([]))
 
 
 class Keepers(Case):

@@ -99,28 +99,20 @@ class Words(Case):
         state.assert_called_once_with("restored", "saved has 1 edges", edges=1)
 
     def test_feeds(self):
-        """One that is followed for ever; behind a file's rest comes the file, where the store has a file."""
-        text, store, recipe = self.file("feed.csv", "a,b\n"), mock.Mock(), mock.Mock()
-        store.follow.side_effect = lambda *_, **__: mock.Mock(recipe=recipe)
+        """What is followed, and how fast, where the store has no file, or the feed is none."""
+        text, server = self.file("feed.csv", "a,b\n"), mock.Mock()
+        server.store.follow.return_value._reads_again = False
         pace = {"every": "1s", "keep": None, "ahead": None, "batch": 4_096, "skip_bad": False, "rejects": None, "progress": False,
                 "by": "add"}
         for said in ((text, "--add"), ("-", "--add"), (str(self.room / "new.db"), "-", "--add")):
             words = self.words(*said)
             serve.take_files(words)
-            found = list(serve.feeds_of(store, words, {"by": "add"}))
-            self.assertEqual((len(found), store.follow.call_args), (1, mock.call(words.file, until_end=False, **pace)), said)
-            self.assertEqual(found[0].recipe, recipe._replace.return_value)
-            recipe._replace.assert_called_with(rotates=False)
-        words = self.words(str(self.room / "new.db"), text, "--add")
-        serve.take_files(words)
-        mark = mock.Mock(**{"rest.side_effect": ["feed.csv.1", None]})
-        with mock.patch.object(serve.FeedMark, "of", return_value=mark), mock.patch.object(log, "state") as state:
-            feeds = serve.feeds_of(store, words, {"by": "add"})
-            for path, is_rest in (("feed.csv.1", True), (text, False)):
-                next(feeds)
-                self.assertEqual(store.follow.call_args, mock.call(path, until_end=is_rest, **pace))
-                recipe._replace.assert_called_with(rotates=True)
-        self.assertEqual(state.call_count, 1)
+            serve.follow(server, words, {"by": "add"})
+            self.assertEqual(server.store.follow.call_args, mock.call(words.file, **pace), said)
+            self.assertEqual(server.feeding.follow.call_args, mock.call(server.store.follow.return_value))
+        server.feeding.follow.reset_mock()
+        serve.follow(server, self.words(), {"by": None})
+        server.feeding.follow.assert_not_called()
 
     def run_it(self, *said):
         """What there is while a server runs: how long a thread's turn is, whether what is there is looked through for cycles,
@@ -149,9 +141,7 @@ class Words(Case):
         self.assertEqual((sys.getswitchinterval(), gc.get_freeze_count(), [signal.getsignal(it) for it in signals]), before)
         _, server, made = self.run_it(self.file("feed.csv", "a,b\n"), "--add", "--source", "1", "--target", "2")
         self.assertEqual((server.feeding.follow.call_count, made[1]["began"]), (1, "with its feed"))
-        following, behind = server.feeding.follow.call_args[0]
-        self.assertIsNone(behind())
-        following.close()
+        server.feeding.follow.call_args[0][0].close()
 
     def test_a_run_that_a_signal_ends_at_once(self):
         with mock.patch.object(serve, "follow", side_effect=KeyboardInterrupt), redirect_stdout(io.StringIO()), \
