@@ -116,7 +116,7 @@ class Steps(unittest.TestCase):
         self.assertEqual((last.last_bad.line, last.last_bad.reason, last.last_bad.text, last.behind), (4, "why", "a,b", None))
 
     def test_where_a_feed_begins(self):
-        self.assertEqual(FeedPlace(), (0, 0, -1, 0, "", 0, 0, False))
+        self.assertEqual(FeedPlace(), (0, 0, -1, 0, "", 0, 0, False, 0, 0, 0))
 
     def test_lengths_that_are_shown(self):
         """In the largest unit of which they are two or more; a year has 365.2425 days."""
