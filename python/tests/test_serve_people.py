@@ -186,8 +186,8 @@ class Roles(ServeCase):
         self.assertEqual(self.post("/v1/rows", {"rows": FEED}, **other).status, 409)
         with heard() as lines:
             self.assertEqual(self.post(f"/v1/feeder/{seat}/batches/1", batch, **self.as_one("feed")).status, 200)
-        posted = [(it["who"], it["version"]) for it in lines if it["event"] == "posted"]  # (a refusal is logged behind its answer)
-        self.assertEqual(posted, [("fred", 1)])
+        # (a refusal is logged behind its answer)
+        self.assertEqual([(it["who"], it["version"]) for it in lines if it["event"] == "posted"], [("fred", 1)])
         self.assertEqual(self.ask("/v1/stat", **self.as_one("read")).json["feed"]["by"], "fred")
         self.assertEqual(self.ask(f"/v1/feeder/{seat}", "DELETE", **self.as_one("admin")).status, 204)
 
