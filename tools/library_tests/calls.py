@@ -209,7 +209,8 @@ class Version(Owner):
                 size = count.value
                 table = [column("I", size), column("I", size)]
         must(code)
-        return list(zip(*table))[:count.value]
+        vertices, levels = table
+        return list(zip(vertices, levels))[:count.value]
 
     def path(self, seen: interface.View, source: int, target: int) -> List[int]:
         """The vertices of a shortest walk, in a column that is as long as it has to be; none where there is no walk."""

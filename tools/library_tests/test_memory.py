@@ -69,6 +69,12 @@ class State:
             it.free()
 
 
+def indexed(state: State, call: Callable[[], object]) -> object:
+    """What a call gives once the edges are indexed by their targets."""
+    state.held.index()
+    return call()
+
+
 # Each call, and what it hands back: those that ask for no memory too, so that one which comes to ask is refused here.
 CALLS: "dict[str, Callable[[State], object]]" = {
     "batch_new": lambda it: it.made.append(Batch(it.library)),
@@ -93,12 +99,12 @@ CALLS: "dict[str, Callable[[State], object]]" = {
     "version_levels": lambda it: it.held.levels(view(), 0),
     "version_labels": lambda it: it.held.labels(view()),
     "version_cores": lambda it: it.held.cores(view()),
-    "version_index": lambda it: (it.held.index(), it.held.within(view(), interface.AGAINST, [2], 2)),
+    "version_index": lambda it: indexed(it, lambda: it.held.within(view(), interface.AGAINST, [2], 2)),
     "version_within along": lambda it: it.held.within(view(), interface.ALONG, [0], 2),
     "version_within against": lambda it: it.held.within(view(), interface.AGAINST, [2], 2),
     "version_within either way": lambda it: it.held.within(view(), interface.EITHER, [1, 1], interface.ANY_STEPS),
     "version_path": lambda it: (it.held.path(view(), 0, 2), it.held.path(view(), 2, 1)),
-    "version_clone of an indexed one": lambda it: (it.held.index(), it.made.append(it.held.clone())),
+    "version_clone of an indexed one": lambda it: indexed(it, lambda: it.made.append(it.held.clone())),
     "version_degrees": lambda it: it.held.degrees(view()),
     "version_row": lambda it: it.held.row(view(), 0),
     "version_edges": lambda it: it.held.edges(view(), 3),

@@ -1,18 +1,16 @@
 """Walks by way of C in random graphs, beside sets of pairs, and beside networkx where that is there. They are compared again with
 a fault that is planted, which has to be found."""
+import importlib.util
 import random
 import unittest
 from array import array
 from ctypes import c_uint64
-from typing import Callable, Dict, List, Optional, Sequence, Set, Tuple
+from typing import Any, Callable, Dict, List, Optional, Sequence, Set, Tuple
 
 from calls import Batch, Code, Desk, Version, at, column, interface, view
 from places import library
 
-try:
-    import networkx
-except ImportError:
-    networkx = None
+networkx: Any = importlib.import_module("networkx") if importlib.util.find_spec("networkx") else None
 
 Pairs = Set[Tuple[int, int]]
 EVER = (0, (1 << 64) - 1)
