@@ -151,9 +151,14 @@ class Rotated(FollowedCase):
             self.write(100, 150)
         server = self.follow()
         self.has(150)
-        self.end(server, signal.SIGTERM)
-        self.assertIn("is another file than the one that was followed last. That one isn't there any more: what wasn't in of it "
-                      "is lost. A file that stood there meanwhile, if there was one, isn't read", server.stderr.read())
+        self.assertIn("may have had more than is in", self.fed()["lost"])
+        self.end(server)
+        told = server.stderr.read()
+        self.follow()  # (nothing is said where a later one has begun, by which time all of it was in)
+        self.assertNotIn("lost", self.fed())
+        self.assertIn("is another file than the one that was followed last. That one isn't there any more. A file that stood "
+                      "there meanwhile, if there was one, isn't read", told)
+        self.assertIn("1 of the files that stood there before aren't there any more, and may have had more than is in", told)
 
 
 class Turns(Case):

@@ -191,6 +191,7 @@ def follow(server: Server, words: argparse.Namespace, how: Dict[str, Any]) -> No
         return
     files = FilesInTurn(server.store, words, how)
     first = files.next()
+    server.feeding.readers.lost = files.lost
     if first is not None:
         server.feeding.follow(first, files)
 
@@ -204,10 +205,16 @@ class FilesInTurn:
         self._how = {**how, "format": how.get("format") or form_of(words.file, how.get("encoding", "utf-8"))}
         self._files = Succession(words.file, store._engine.feeds, self._note)
         if self._files.is_another:
-            before = ("isn't there any more: what wasn't in of it is lost" if self._files.before is None else
+            before = ("isn't there any more" if self._files.before is None else
                       f"is {self._files.before}, and what isn't in of it goes in first")
             log.state("rotated", f"{words.file} is another file than the one that was followed last. That one {before}. A file "
                       "that stood there meanwhile, if there was one, isn't read")
+        # Why rows may be lost, where they may.
+        self.lost = ""
+        if self._files.gone:
+            self.lost = (f"{self._files.gone} of the files that stood there before aren't there any more, and may have had more "
+                         "than is in")
+            log.state("lost", f"{words.file}: {self.lost}", files=self._files.gone)
 
     def next(self) -> Optional[Following]:
         """The next one, for which this waits; `None` once it is closed."""

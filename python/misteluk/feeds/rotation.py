@@ -6,7 +6,7 @@ import os
 import threading
 from collections import deque
 from contextlib import suppress
-from typing import IO, Callable, Deque, List, Mapping, Optional
+from typing import IO, Callable, Deque, List, Mapping, Optional, Tuple
 
 from .marks import Mark
 from .steps import FeedMark
@@ -60,6 +60,10 @@ def _opened(path: str, name: Optional[str], mark: FeedMark) -> Optional[Standing
     return None
 
 
+def _number(found: Optional[os.stat_result]) -> Optional[Tuple[int, int]]:
+    return None if found is None else (found.st_dev, found.st_ino)
+
+
 def has(file: int, mark: FeedMark) -> bool:
     """Whether a file has what was read of it by this mark."""
     place = mark.place
@@ -109,6 +113,10 @@ class Succession:
         # Whether the file that stands there wasn't there before, though another one was; and where that one is now, if anywhere.
         self.is_another = bool(known) and self._turn > known[-1].turn
         self.before = found[-1].found if found and found[-1].mark.turn == known[-1].turn else None
+        # How many aren't there any more and may have had more than is in: no later one had begun, or more was read of them.
+        begun = max((it.turn for it in known if it.place.done), default=0)
+        there = {it.mark.turn for it in found} | {it.turn for it in known if it.file == _number(self._last)}
+        self.gone = sum(it.turn not in there and (it.place.left or it.turn >= begun) for it in known)
         threading.Thread(target=self._watch, name="rotation", daemon=True).start()
 
     def _watch(self) -> None:
