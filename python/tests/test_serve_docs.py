@@ -12,6 +12,7 @@ import sys
 import unittest
 import urllib.request
 from contextlib import redirect_stdout, suppress
+from itertools import islice, takewhile
 
 from serving import ServeCase
 from support import HERE, TOP, as_soon_as, row
@@ -56,14 +57,18 @@ class Page(ServeCase):
         if command.endswith("&"):
             self.shell.stdin.write(f"{command[:-1]} --listen 127.0.0.1:{self.port} &\n")
             self.shell.stdin.flush()
-            told = "".join(self.shell.stdout.readline() for _ in range(count))
+            told = "".join(islice(self.lines(), count))
             self.jobs += map(int, self.typed("jobs -p", 0).split())
             return told
         self.shell.stdin.write(f"{command}\necho; echo that was it\n")
         self.shell.stdin.flush()
-        lines = iter(self.shell.stdout.readline, "that was it\n")
-        # (A shell that does jobs also tells of one that has ended, sooner or later.)
-        return "".join(it for it in lines if not re.match(r"(\[\d+\]\S? +|\S+: line \d+: +\d+ )(Terminated|Killed) ", it))
+        return "".join(takewhile(lambda it: it != "that was it\n", self.lines()))
+
+    def lines(self):
+        """What comes, line by line. (A shell that does jobs also tells of one that has ended, sooner or later.)"""
+        for line in iter(self.shell.stdout.readline, ""):
+            if not re.match(r"(\[\d+\]\S? +|\S+: line \d+: +\d+ )(Terminated|Killed) ", line):
+                yield line
 
     def test_the_page(self):
         """Its blocks in their order, as a reader types them."""
