@@ -46,11 +46,12 @@ def package(prefix, libraries):
 
 
 def put_beside(library):
-    """Writes what stands beside a shared library in a clone: its other name, and what pkg-config reads."""
+    """Writes what stands beside a shared library in a clone: its other name, and what pkg-config reads. The name is that of the
+    same file, and no symbolic link: `rt ci` takes none in the repository's folder."""
     folder = library.parent
     other = folder / soname()
     other.unlink(missing_ok=True)
-    other.symlink_to(library.name)
+    os.link(library, other)
     (folder / "misteluk.pc").write_text(package(os.path.relpath(TOP, folder), os.path.relpath(folder, TOP)))
 
 
