@@ -4,11 +4,11 @@ use Rattle.std.proofs.{Common.{length, set, get_or, not, Option, Some, None, con
 use Rattle.std.proofs.lemmas.{Bool.{cases_lt, ltb-true, ltb-false}, Option.get_or_from_slice_get, List.{get_or-set_same, get_or-set_other, get_or_past}}
 use Rattle.std.proofs.lemmas.List.{length-replicate, get_or-replicate, map-append, Elements.{All-tail, All-weaker, All-push}}
 use Rattle.std.proofs.lemmas.List.Elements.{All-nil, All-cons, Contains-push, Contains-append_left, All-contains}
-use Rattle.std.specs.{Prelude.{All, IfSome, replicate, nat_lt}, List.Contains}
+use Rattle.std.specs.{Prelude.{All, IfSome, replicate, nat_lt}, List.Contains, Option.is_some}
 use Rattle.graph_types.specs.{Graph.Graph, Analyses.{LeadsTo, Walk, IsLevel, IsTable}, declared.ids.{Filter.Filter, VertexId.VertexId}}
 use Rattle.graph_types.proofs.Counts.{Contains-cons, Contains-cons_cases, Contains-first, Contains-nil}
 use Rattle.graph_levels.specs.Search.{is_unreached, level_of, HasLevel, IsReachedWithin, IsSearch}
-use Rattle.graph_levels.specs.{Near.{AreLevelsFrom, Comes, IsSearchBound, IsAtMost, IsLevelFrom, is_below}, Reached.{is_found, met, stands_in, level_table, vertices_of}}
+use Rattle.graph_levels.specs.{Near.{AreFoundFor, AreLevelsFrom, AreLevelsSoFar, Comes, IsAtMost, IsLevelFrom, IsLevelSoFar, is_below}, Reached.{is_found, met, stands_in, level_table, vertices_of}}
 use Rattle.graph_levels.proofs.{Frontiers.{none_of, same_level, some_of}, Tables.{length-table, levelled, table_push}}
 
 -- fewer than a bound are within it, and no more than some number that is within it
@@ -52,21 +52,14 @@ is_over a b n most found is = choose (nat_lt a b) (is_below n most) found refl r
   choose false y z left right is all = inl (ltb-false a b left)
 
 -- what stands in a row has a level
-pub found_level : (n : ℕ) (rows : List (VertexId × ℕ)) (until : Option ℕ) → IfSome until (λ t. t < n) → is_found rows until ≡ true
-    → (most : Option ℕ) (bound : Option ℕ) → IsSearchBound most until (level_table n rows) bound
-found_level n rows None in' found most bound = absurd (cc)
-found_level n rows (Some t) in' found most bound =
-    inr (some_of (level_of (level_table n rows) t) (levelled n rows t in' ∙ ap not found))
+pub found_level : (n : ℕ) (rows : List (VertexId × ℕ)) (t : ℕ) → t < n → stands_in t rows ≡ true
+    → (k : ℕ) × HasLevel (level_table n rows) k t
+found_level n rows t lt found = some_of (level_of (level_table n rows) t) (levelled n rows t lt ∙ ap not found)
 
 -- a vertex has a place among the marks
 pub marks_within : (until : Option ℕ) (n m : ℕ) → n ≤ 64 * m → IfSome until (λ t. t < n) → IfSome until (λ t. t / 64 < m)
 marks_within None n m words in' = tt
 marks_within (Some t) n m words in' = omega arith
-
--- a search that ends at its bound
-pub ends : (most until : Option ℕ) (levels : List (Option ℕ)) → IsSearchBound most until levels most
-ends most None levels = refl
-ends most (Some t) levels = inl refl
 
 module _ (Step : ℕ → ℕ → Type 0) (sources : List ℕ) where
   -- rows of sources alone, each with level 0
@@ -250,6 +243,76 @@ module _ (Step : ℕ → ℕ → Type 0) (sources : List ℕ) where
       one_each = long;
       each = λ v x is. level_at v x (get_or_from_slice_get levels v x None is);
     }
+
+-- levels within a bound, as those of a search that isn't at its end
+so_far : (Step : ℕ → ℕ → Type 0) (sources : List ℕ) (bound : Option ℕ) (v : ℕ) (o : Option ℕ)
+    → IsLevelFrom Step sources bound v o → IsLevelSoFar Step sources bound v o
+so_far Step sources bound v None none = none
+so_far Step sources bound v (Some n) is = (is.0, is.2)
+
+pub levels_so_far : (n : ℕ) (Step : ℕ → ℕ → Type 0) (sources : List ℕ) (bound : Option ℕ) (levels : List (Option ℕ))
+    → AreLevelsFrom n Step sources bound levels → AreLevelsSoFar n Step sources bound levels
+levels_so_far n Step sources bound levels are =
+    record { one_each = are.one_each; each = λ v x is. so_far Step sources bound v x (are.each v x is) }
+
+-- at its end a search has found what it was for
+pub ended : (n : ℕ) (Step : ℕ → ℕ → Type 0) (sources : List ℕ) (most until : Option ℕ) (levels : List (Option ℕ))
+    → AreLevelsFrom n Step sources most levels → AreFoundFor n Step sources most until levels
+ended n Step sources most None levels are = are
+ended n Step sources most (Some t) levels are = (most, levels_so_far n Step sources most levels are, inl refl)
+
+-- and so it has where it was cut off once it reached a vertex
+module _ (Step : ℕ → ℕ → Type 0) (sources : List ℕ) (levels : List (Option ℕ)) (rest next : List ℕ) (d : ℕ)
+    (i : IsSearch Step sources levels rest next d) where
+  reached_nearer : (m v : ℕ) → Comes Step sources v m → m ≤ d → IsReachedWithin levels m v
+  reached_nearer zero v walk room =
+      (0, ap (level_of levels) (sym walk.2) ∙ All-contains (HasLevel levels 0) sources walk.0 i.start walk.1, omega arith)
+  reached_nearer (suc m) v walk room =
+      let before = reached_nearer m walk.2.0 (walk.0, walk.1, walk.2.1) (omega arith) in
+      let c = walk.2.0 in
+      let a = before.2 in
+      elim (i.closed c v before.0 before.1 walk.2.2) [
+        | inl r ↦ let b = r.2 in (r.0, r.1, omega arith)
+        | inr (inl in') ↦
+            let same = same_level levels c before.0 d before.1 (All-contains (HasLevel levels d) rest c i.now in') in
+            absurd (omega arith)
+        | inr (inr in') ↦
+            let same = same_level levels c before.0 (d + 1) before.1 (All-contains (HasLevel levels (d + 1)) next c i.later in') in
+            absurd (omega arith)
+      ]
+
+  level_so_far : (v : ℕ) (o : Option ℕ) → level_of levels v ≡ o → IsLevelSoFar Step sources (Some d) v o
+  level_so_far v None is = λ n walk in'.
+      let r = reached_nearer n v walk in' in
+      let both = sym is ∙ r.1 in
+      absurd (cc)
+  level_so_far v (Some n) is = (
+    i.sound v n is,
+    λ m walk. elim (cases_lt m n) [
+      | inl lt ↦
+          let le = i.low v n is in
+          let r = reached_nearer m v walk (omega arith) in
+          let same = same_level levels v r.0 n r.1 is in
+          let a = r.2 in
+          omega arith
+      | inr ge ↦ ge
+    ],
+  )
+
+  pub cut_off : (n : ℕ) (most until : Option ℕ) → length levels ≡ n
+      → IfSome until (λ t. (k : ℕ) × HasLevel levels k t) → is_some until ≡ true → AreFoundFor n Step sources most until levels
+  cut_off n most None long found some = absurd (cc)
+  cut_off n most (Some t) long found some = (
+    Some d,
+    record { one_each = long; each = λ v x is. level_so_far v x (get_or_from_slice_get levels v x None is) },
+    inr (d, refl, found.0, found.1, i.low t found.0 found.1),
+  )
+
+-- a vertex that was to be reached, and stands in a row
+pub found_there : (n : ℕ) (rows : List (VertexId × ℕ)) (until : Option ℕ) → IfSome until (λ t. t < n) → is_found rows until ≡ true
+    → IfSome until (λ t. (k : ℕ) × HasLevel (level_table n rows) k t) × (is_some until ≡ true)
+found_there n rows None in' found = absurd (cc)
+found_there n rows (Some t) in' found = (found_level n rows t in' found, refl)
 
 -- from one source, without a bound, these are the levels
 module _ (f : Filter) (g : Graph) (s : ℕ) where

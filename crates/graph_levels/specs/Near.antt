@@ -1,5 +1,5 @@
 -- How far walks lead that begin at any of several vertices.
-use Rattle.std.specs.Prelude.{◌≡◌, ◌⊎◌, ℕ, ◌≤◌, List, Option, None, Some, Bool, true, nat_lt, slice_index_or}
+use Rattle.std.specs.Prelude.{◌≡◌, ◌⊎◌, ℕ, ◌+◌, ◌≤◌, List, Option, None, Some, Bool, true, nat_lt, slice_index_or}
 use Rattle.std.specs.List.{Contains}
 use Rattle.graph_types.specs.{Analyses.{Walk, IsTable}, declared.ids.VertexId.VertexId}
 use Rattle.graph_levels.specs.Reached.{rows_from}
@@ -27,15 +27,25 @@ IsLevelFrom Step sources most v (Some n) = Comes Step sources v n × IsAtMost mo
 abbrev pub AreLevelsFrom : ℕ → (ℕ → ℕ → Type 0) → List ℕ → Option ℕ → List (Option ℕ) → Type 0
 AreLevelsFrom count Step sources most levels = IsTable count (IsLevelFrom Step sources most) levels
 
--- a search that was to reach a vertex, if there is one, has found the levels within its bound; or, once it reached that
--- vertex, those within a nearer one
-abbrev pub IsSearchBound : Option ℕ → Option ℕ → List (Option ℕ) → Option ℕ → Type 0
-IsSearchBound most None levels bound = bound ≡ most
-IsSearchBound most (Some t) levels bound = (bound ≡ most) ⊎ ((n : ℕ) × (slice_index_or levels t None ≡ Some n))
+-- the same of a search that isn't at its end: all vertices to which a walk within the bound leads have their levels, and those of
+-- others are right where they have one
+abbrev pub IsLevelSoFar : (ℕ → ℕ → Type 0) → List ℕ → Option ℕ → ℕ → Option ℕ → Type 0
+IsLevelSoFar Step sources bound v None = (n : ℕ) → Comes Step sources v n → IsAtMost bound n → ⊥
+IsLevelSoFar Step sources bound v (Some n) = Comes Step sources v n × ((m : ℕ) → Comes Step sources v m → n ≤ m)
 
+abbrev pub AreLevelsSoFar : ℕ → (ℕ → ℕ → Type 0) → List ℕ → Option ℕ → List (Option ℕ) → Type 0
+AreLevelsSoFar count Step sources bound levels = IsTable count (IsLevelSoFar Step sources bound) levels
+
+-- a search that was to reach a vertex ended at its bound, or once it reached that vertex: then it has all that are nearer
+abbrev pub EndsSearch : Option ℕ → ℕ → List (Option ℕ) → Option ℕ → Type 0
+EndsSearch most t levels bound =
+    (bound ≡ most) ⊎ ((d : ℕ) × (bound ≡ Some d) × (n : ℕ) × (slice_index_or levels t None ≡ Some n) × (n ≤ d + 1))
+
+-- the levels of a search without a vertex to be reached, and of one with it
 abbrev pub AreFoundFor : ℕ → (ℕ → ℕ → Type 0) → List ℕ → Option ℕ → Option ℕ → List (Option ℕ) → Type 0
-AreFoundFor count Step sources most until levels =
-    (bound : Option ℕ) × AreLevelsFrom count Step sources bound levels × IsSearchBound most until levels bound
+AreFoundFor count Step sources most None levels = AreLevelsFrom count Step sources most levels
+AreFoundFor count Step sources most (Some t) levels =
+    (bound : Option ℕ) × AreLevelsSoFar count Step sources bound levels × EndsSearch most t levels bound
 
 -- the vertices that have one, each with it, in number order
 abbrev pub AreNear : ℕ → (ℕ → ℕ → Type 0) → List ℕ → Option ℕ → List (VertexId × ℕ) → Type 0

@@ -27,3 +27,7 @@ pub record IsSearch (Step : ℕ → ℕ → Type 0) (sources : List ℕ) (levels
   pub later : All (HasLevel levels (depth + 1)) next
   pub closed : (u v k : ℕ) → HasLevel levels k u → Step u v
       → IsReachedWithin levels (k + 1) v ⊎ (Contains rest u ⊎ Contains next u)
+
+-- one that was cut off: some of the frontier may be left, and some of the next one may be missing
+abbrev pub IsCutSearch : (ℕ → ℕ → Type 0) → List ℕ → List (Option ℕ) → ℕ → Type 0
+IsCutSearch Step sources levels depth = (rest : List ℕ) × (next : List ℕ) × IsSearch Step sources levels rest next depth

@@ -1,13 +1,13 @@
 //! Levels, by frontiers.
 
 ghost use Rattle.std.specs.Prelude.{◌≡◌, ◌<◌, ◌≤◌, ◌+◌, ◌*◌, ◌/◌, ℕ, List, [], length, drop, replicate, All, IfOk, OnOk};
-ghost use Rattle.std.specs.Prelude.{IfSome, nat_lt, not, ◌&&◌};
+ghost use Rattle.std.specs.Prelude.{IfSome, nat_lt, not, true, false, ◌&&◌};
 ghost use Rattle.graph_types.specs.Limits.{most_names};
 ghost use Rattle.graph_levels.specs.Near as near;
 ghost use Rattle.graph_levels.specs.Near.{AreFoundFor};
 ghost use Rattle.graph_levels.specs.Reached as reached;
 ghost use Rattle.graph_levels.specs.Reached.{AreRows, AreVertexMarks, met, level_table, vertices_of};
-ghost use Rattle.graph_levels.specs.Search.{IsSearch};
+ghost use Rattle.graph_levels.specs.Search.{IsCutSearch, IsSearch};
 
 use crate::marks::{WORD, is_marked, mark};
 use crate::steps::Steps;
@@ -35,47 +35,6 @@ fn visit(
     Ok(())
 }
 
-/// Adds the next frontier: the vertices without a row to which a step leads from the rows that stand behind the first ones,
-/// which are this frontier. Each gets the level after `depth`, which is this frontier's.
-fn advance<S: Steps>(
-    steps: &S,
-    marks: &mut [u64],
-    rows: &mut Vec<(VertexId, u32)>,
-    next: &mut Vec<u32>,
-    first: usize,
-    depth: u32,
-) -> Result<(), AllocError>
-    requires words { S.vertices steps.now ≤ 64 * length marks.old }
-    requires within { (a b : ℕ) → S.leads steps.now a b → (a < S.vertices steps.now) × (b < S.vertices steps.now) }
-    requires few { depth < most_names }
-    requires marks { AreVertexMarks marks.old rows.old.items }
-    requires rows { AreRows (S.vertices steps.now) rows.old.items }
-    ensures marks { OnOk result (AreVertexMarks marks.new rows.new.items) }
-    ensures rows { OnOk result (AreRows (S.vertices steps.now) rows.new.items) }
-    ensures more { OnOk result (length rows.old.items ≤ length rows.new.items) }
-    ensures search { OnOk result ((sources : List ℕ)
-        → IsSearch (S.leads steps.now) sources (level_table (S.vertices steps.now) rows.old.items)
-        (vertices_of (drop first rows.old.items)) [] depth
-        → IsSearch (S.leads steps.now) sources (level_table (S.vertices steps.now) rows.new.items)
-        [] (vertices_of (drop (length rows.old.items) rows.new.items)) depth) }
-{
-    for place in first..rows.len() {
-        steps.list_next(rows[place].0.0, next)?;
-        visit(marks, rows, next, depth + 1)?;
-    }
-    Ok(())
-}
-
-/// Whether a level is below the bound, if there is one.
-fn is_below(level: u32, most: Option<u32>) -> bool
-    ensures { result ≡ near.is_below level most }
-{
-    match most {
-        Some(most) => level < most,
-        None => true,
-    }
-}
-
 /// Whether there is a vertex to be reached, and it stands in a row.
 fn is_found(marks: &[u64], rows: &[(VertexId, u32)], until: Option<u32>) -> bool
     requires marks { AreVertexMarks marks.now rows.now }
@@ -85,6 +44,57 @@ fn is_found(marks: &[u64], rows: &[(VertexId, u32)], until: Option<u32>) -> bool
     match until {
         Some(vertex) => is_marked(marks, vertex),
         None => false,
+    }
+}
+
+/// Adds the next frontier: the vertices without a row to which a step leads from the rows that stand behind the first ones,
+/// which are this frontier. Each gets the level after `depth`, which is this frontier's. Once the vertex `until` has a row it goes
+/// no further, and tells so.
+fn advance<S: Steps>(
+    steps: &S,
+    marks: &mut [u64],
+    rows: &mut Vec<(VertexId, u32)>,
+    next: &mut Vec<u32>,
+    first: usize,
+    depth: u32,
+    until: Option<u32>,
+) -> Result<bool, AllocError>
+    requires words { S.vertices steps.now ≤ 64 * length marks.old }
+    requires within { (a b : ℕ) → S.leads steps.now a b → (a < S.vertices steps.now) × (b < S.vertices steps.now) }
+    requires few { depth < most_names }
+    requires until { IfSome until (λ t. t < S.vertices steps.now) }
+    requires marks { AreVertexMarks marks.old rows.old.items }
+    requires rows { AreRows (S.vertices steps.now) rows.old.items }
+    ensures marks { OnOk result (AreVertexMarks marks.new rows.new.items) }
+    ensures rows { OnOk result (AreRows (S.vertices steps.now) rows.new.items) }
+    ensures more { OnOk result (length rows.old.items ≤ length rows.new.items) }
+    ensures search { IfOk result (λ found. found ≡ false → (sources : List ℕ)
+        → IsSearch (S.leads steps.now) sources (level_table (S.vertices steps.now) rows.old.items)
+        (vertices_of (drop first rows.old.items)) [] depth
+        → IsSearch (S.leads steps.now) sources (level_table (S.vertices steps.now) rows.new.items)
+        [] (vertices_of (drop (length rows.old.items) rows.new.items)) depth) }
+    ensures early { IfOk result (λ found. found ≡ true → (reached.is_found rows.new.items until ≡ true)
+        × ((sources : List ℕ) → IsSearch (S.leads steps.now) sources (level_table (S.vertices steps.now) rows.old.items)
+        (vertices_of (drop first rows.old.items)) [] depth
+        → IsCutSearch (S.leads steps.now) sources (level_table (S.vertices steps.now) rows.new.items) depth)) }
+{
+    for place in first..rows.len() {
+        steps.list_next(rows[place].0.0, next)?;
+        visit(marks, rows, next, depth + 1)?;
+        if is_found(marks, rows, until) {
+            return Ok(true);
+        }
+    }
+    Ok(false)
+}
+
+/// Whether a level is below the bound, if there is one.
+fn is_below(level: u32, most: Option<u32>) -> bool
+    ensures { result ≡ near.is_below level most }
+{
+    match most {
+        Some(most) => level < most,
+        None => true,
     }
 }
 
@@ -127,7 +137,9 @@ fn reach<S: Steps>(
         is_found(marks, &rows, until),
     ) {
         let end = rows.len();
-        advance(steps, marks, &mut rows, &mut next, first, depth)?;
+        if advance(steps, marks, &mut rows, &mut next, first, depth, until)? {
+            return Ok(rows);
+        }
         first = end;
         depth += 1;
     }

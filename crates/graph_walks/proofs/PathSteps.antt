@@ -6,8 +6,8 @@ use Rattle.std.proofs.lemmas.List.{length-set, length-replicate, get_or-replicat
 use Rattle.std.specs.{Prelude.unwrap_or, List.Contains}
 use Rattle.graph_types.specs.Analyses.{Walk}
 use Rattle.graph_types.proofs.Counts.{Contains-cons_cases, Contains-first, Contains-nil}
-use Rattle.graph_levels.specs.{Near.{AreLevelsFrom, Comes, IsAtMost, IsLevelFrom}, Search.{HasLevel, level_of}}
-use Rattle.graph_levels.proofs.{Frontiers.same_level, Searches.lesser_is_within}
+use Rattle.graph_levels.specs.{Near.{AreLevelsSoFar, Comes, EndsSearch, IsAtMost, IsLevelSoFar}, Search.{HasLevel, level_of}}
+use Rattle.graph_levels.proofs.{Frontiers.same_level}
 use Rattle.graph_walks.specs.Paths.{IsLeastAt, IsPath, IsWalkBy}
 
 module _ (levels : List (Option ℕ)) (level : ℕ) where
@@ -79,14 +79,14 @@ module _ (Step : ℕ → ℕ → Type 0) (source target level : ℕ) (levels : L
     pub least : (i u d : ℕ) → place ≤ i → i + 1 < length path → Walk Step source u i → Step u (get_or path (i + 1) d) → get_or path i d ≤ u
 
 module _ (Step : ℕ → ℕ → Type 0) (n source target : ℕ) (most : Option ℕ) (levels : List (Option ℕ))
-    (are : AreLevelsFrom n Step (source ∷ []) most levels) where
+    (are : AreLevelsSoFar n Step (source ∷ []) most levels) where
   level_within : (v k : ℕ) → HasLevel levels k v → v < length levels
   level_within v k h = elim (cases_lt v (length levels)) [
     | inl lt ↦ lt
     | inr past ↦ let both = sym (get_or_past levels v None past) ∙ h in absurd (cc)
   ]
 
-  told : (v : ℕ) (o : Option ℕ) → v < length levels → level_of levels v ≡ o → IsLevelFrom Step (source ∷ []) most v o
+  told : (v : ℕ) (o : Option ℕ) → v < length levels → level_of levels v ≡ o → IsLevelSoFar Step (source ∷ []) most v o
   told v o lt is = are.each v o (slice_get-get_or levels v None lt ∙ ap (λ x. Some x) is)
 
   alone : (v k : ℕ) → Comes Step (source ∷ []) v k → Walk Step source v k
@@ -104,30 +104,30 @@ module _ (Step : ℕ → ℕ → Type 0) (n source target : ℕ) (most : Option 
       let long = are.one_each in
       told target None (omega arith) is k (from_source target k walk) (subst (λ m. IsAtMost m k) (sym none) tt)
 
-  module _ (level : ℕ) (within : (a b : ℕ) → Step a b → (a < n) × (b < n)) where
+  module _ (level : ℕ) (within : (a b : ℕ) → Step a b → (a < n) × (b < n)) (deep : (k : ℕ) → k < level → IsAtMost most k) where
     -- a vertex from which a step leads to one of a level, and to which a walk leads that is one shorter
-    nearer : (u v p : ℕ) → HasLevel levels (suc p) v → Walk Step source u p → Step u v → HasLevel levels p u
-    nearer u v p h walk edge =
+    nearer : (u v p : ℕ) → p < level → HasLevel levels (suc p) v → Walk Step source u p → Step u v → HasLevel levels p u
+    nearer u v p low h walk edge =
         let long = are.one_each in
         let lt : u < length levels = (let in' = (within u v edge).0 in omega arith) in
-        let here : IsLevelFrom Step (source ∷ []) most v (Some (suc p)) = told v (Some (suc p)) (level_within v (suc p) h) h in
+        let here : IsLevelSoFar Step (source ∷ []) most v (Some (suc p)) = told v (Some (suc p)) (level_within v (suc p) h) h in
         let cases : (o : Option ℕ) → level_of levels u ≡ o → HasLevel levels p u =
         λ o. elim o as (λ o. level_of levels u ≡ o → HasLevel levels p u) [
           | None ↦ λ is.
-              absurd (told u None lt is p (from_source u p walk) (lesser_is_within most p (suc p) (omega arith) here.1))
+              absurd (told u None lt is p (from_source u p walk) (deep p low))
           | Some k ↦ λ is.
-              let there : IsLevelFrom Step (source ∷ []) most u (Some k) = told u (Some k) lt is in
-              let le = there.2 p (from_source u p walk) in
-              let ge = here.2 (suc k) (from_source v (suc k) (u, alone u k there.0, edge)) in
+              let there : IsLevelSoFar Step (source ∷ []) most u (Some k) = told u (Some k) lt is in
+              let le = there.1 p (from_source u p walk) in
+              let ge = here.1 (suc k) (from_source v (suc k) (u, alone u k there.0, edge)) in
               let e : k ≡ p = omega arith in
               is ∙ ap (λ x. Some x) e
         ] in
         cases (level_of levels u) refl
 
-    before : (v p : ℕ) → HasLevel levels (suc p) v → (u : ℕ) × HasLevel levels p u × Step u v
-    before v p h =
+    before : (v p : ℕ) → p < level → HasLevel levels (suc p) v → (u : ℕ) × HasLevel levels p u × Step u v
+    before v p low h =
         let walk = alone v (suc p) (told v (Some (suc p)) (level_within v (suc p) h) h).0 in
-        (walk.0, nearer walk.0 v p h walk.1 walk.2, walk.2)
+        (walk.0, nearer walk.0 v p low h walk.1 walk.2, walk.2)
 
     pub begin_back : HasLevel levels level target → IsBack Step source target level levels (replicate (suc level) target) level target
     begin_back h = record {
@@ -143,7 +143,7 @@ module _ (Step : ℕ → ℕ → Type 0) (n source target : ℕ) (most : Option 
     pub step_back : (path : List ℕ) (p at v : ℕ) → IsBack Step source target level levels path (suc p) at
         → ((u : ℕ) → Step u at → HasLevel levels p u → Step v at × HasLevel levels p v × (v ≤ u)) → IsBack Step source target level levels (set path p v) p v
     step_back path p at v i choose =
-        let one = before at p i.here in
+        let one = before at p (let low = i.low in omega arith) i.here in
         let chosen = choose one.0 one.2 one.1 in
         let long = i.long in
         let low = i.low in
@@ -168,7 +168,7 @@ module _ (Step : ℕ → ℕ → Type 0) (n source target : ℕ) (most : Option 
                     let there : get_or path (k + 1) d ≡ at = ap (λ (j : ℕ). get_or path (j + 1) d) same ∙ ap (λ (j : ℕ). get_or path j d) (add-one p) ∙ i.stands d in
                     let to : Step u at = subst (Step u) there edge' in
                     let walk' : Walk Step source u p = subst (Walk Step source u) same walk in
-                    let told = (choose u to (nearer u at p i.here walk' to)).2 in
+                    let told = (choose u to (nearer u at p (omega arith) i.here walk' to)).2 in
                     let value : get_or (set path p v) k d ≡ v = ap (λ (j : ℕ). get_or (set path p v) j d) same ∙ get_or-set_same path p v d lt in
                     omega arith
                 | inr other ↦
@@ -184,8 +184,34 @@ module _ (Step : ℕ → ℕ → Type 0) (n source target : ℕ) (most : Option 
         record {
           walk = subst (λ a. IsWalkBy Step a target path) (sym from) i.walk;
           shortest = λ k walk.
-              let least = (told target (Some level) (level_within target level h) h).2 k (from_source target k walk) in
+              let least = (told target (Some level) (level_within target level h) h).1 k (from_source target k walk) in
               let long = i.long in
               omega arith;
           least = λ k u d lt walk edge. i.least k u d (omega arith) lt walk edge;
         }
+
+-- what stands at a place, whatever stands for places past the end
+pub same_at : (xs : List (Option ℕ)) (i : ℕ) (x : Option ℕ) → i < length xs → x ≡ get_or xs i x → level_of xs i ≡ x
+same_at xs i x lt is =
+    let a = slice_get-get_or xs i None lt in
+    let b = slice_get-get_or xs i x lt in
+    cc
+
+-- a search that reached a vertex has the levels of all that are nearer
+pub deep_enough : (t level : ℕ) (levels : List (Option ℕ)) (bound : Option ℕ) → HasLevel levels level t
+    → EndsSearch None t levels bound → (k : ℕ) → k < level → IsAtMost bound k
+deep_enough t level levels bound h ends k lt = elim ends [
+  | inl none ↦ subst (λ b. IsAtMost b k) (sym none) tt
+  | inr some ↦
+      let same = same_level levels t level some.2 h some.3 in
+      let le = some.4 in
+      subst (λ b. IsAtMost b k) (sym some.1) (omega arith)
+]
+
+-- one that did not reach it has found all
+pub all_found : (t : ℕ) (levels : List (Option ℕ)) (bound : Option ℕ) → level_of levels t ≡ None → EndsSearch None t levels bound
+    → bound ≡ None
+all_found t levels bound none ends = elim ends [
+  | inl e ↦ e
+  | inr some ↦ let both = sym none ∙ some.3 in absurd (cc)
+]

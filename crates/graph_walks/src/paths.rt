@@ -3,7 +3,7 @@
 ghost use Rattle.std.specs.Prelude.{◌≡◌, ◌<◌, ◌≤◌, ◌↔◌, ◌∷◌, ◌++◌, ℕ, List, [], Option, IfOk, IsTrue, length};
 ghost use Rattle.std.specs.List.{Contains};
 ghost use Rattle.std.specs.Option.{option_map};
-ghost use Rattle.graph_levels.specs.Near.{AreLevelsFrom};
+ghost use Rattle.graph_levels.specs.Near.{AreLevelsSoFar, IsAtMost};
 ghost use Rattle.graph_levels.specs.Search.{HasLevel};
 ghost use Rattle.graph_walks.specs.Paths.{IsLeastAt, IsPath, IsPathIfAny, turned};
 ghost use Rattle.graph_types.specs.Analyses.{LeadsTo};
@@ -63,7 +63,9 @@ fn walk_back<S: Steps>(
     level: u32,
 ) -> Result<Vec<u32>, AllocError>
     requires within { (a b : ℕ) → S.leads back.now a b → (a < S.vertices back.now) × (b < S.vertices back.now) }
-    requires levels { (most : Option ℕ) × AreLevelsFrom (S.vertices back.now) (turned (S.leads back.now)) (source ∷ []) most levels.now }
+    requires levels { (bound : Option ℕ)
+        × AreLevelsSoFar (S.vertices back.now) (turned (S.leads back.now)) (source ∷ []) bound levels.now
+        × ((k : ℕ) → k < level → IsAtMost bound k) }
     requires level { HasLevel levels.now level target }
     ensures { IfOk result (λ path. IsPath (turned (S.leads back.now)) source target path.items) }
 {

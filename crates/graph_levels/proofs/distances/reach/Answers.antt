@@ -3,7 +3,7 @@ use Rattle.std.{proofs.lemmas.List.length-replicate, specs.Prelude.{All, replica
 use Rattle.graph_types.specs.declared.ids.VertexId.{VertexId}
 use Rattle.graph_levels.specs.{Search.IsSearch, Reached.{AreRows, is_found, level_table, met, vertices_of}}
 use Rattle.graph_levels.proofs.{Frontiers.deeper, Marking.no_marks}
-use Rattle.graph_levels.proofs.Searches.{begin, begin_flat, bound_is, ends, found, found_level, goes_on, is_over, less_is_within, marks_within, none_is_within}
+use Rattle.graph_levels.proofs.Searches.{begin, begin_flat, bound_is, cut_off, ended, found, found_there, goes_on, is_over, less_is_within, marks_within, none_is_within}
 use Rattle.graph_levels.proofs.Tables.{few_rows, length-table, met_rows, no_rows, none_left}
 use Rattle.graph_levels.proofs.distances.reach.Goals as goal
 
@@ -53,7 +53,7 @@ frontiers-preserved g c =
     let on = goes_on c.frontiers.first c.len.result d c.args.most c.is_found.result
     (sym c.goes_on.ensures ∙ c.frontiers-test.true) in
     let more : IsSearch step sources (level_table n new) [] (vertices_of (drop (length old) new)) d =
-    c.in_ok-advance.ensures.search sources i.search in
+    c.in_ok-advance.ensures.search c.if-branch.false sources i.search in
     record {
       words = omega (arith, i.words, c.advance.auto.marks);
       marks = c.in_ok-advance.ensures.marks;
@@ -76,23 +76,25 @@ returns-clause-levels g c =
     let rows = c.frontiers.rows.items in
     let rest = vertices_of (drop c.frontiers.first rows) in
     elim (is_over c.frontiers.first c.len.result d c.args.most c.is_found.result (sym c.goes_on.ensures ∙ c.frontiers-test.false)) [
-      | inl past ↦ (
-        c.args.most,
-        found step sources (level_table n rows) rest d c.args.most i.search i.flat i.bound
-            (inl (none_left c.frontiers.first rows (omega (arith, past, c.len.ensures)))) n (length-table n rows),
-        ends c.args.most c.args.until (level_table n rows),
-      )
-      | inr (inl bound) ↦ (
-        c.args.most,
-        found step sources (level_table n rows) rest d c.args.most i.search i.flat i.bound
-            (inr (bound_is c.args.most d bound i.bound)) n (length-table n rows),
-        ends c.args.most c.args.until (level_table n rows),
-      )
-      | inr (inr there) ↦ (
-        Some d,
-        found step sources (level_table n rows) rest d (Some d) i.search i.flat (omega arith) (inr refl) n (length-table n rows),
-        found_level n rows c.args.until c.requires.until
-            (ap (λ (rs : List (VertexId × ℕ)). is_found rs c.args.until) (sym c.deref.ensures.value) ∙ sym c.is_found.ensures ∙ there)
-            c.args.most (Some d),
-      )
+      | inl past ↦ ended n step sources c.args.most c.args.until (level_table n rows)
+          (found step sources (level_table n rows) rest d c.args.most i.search i.flat i.bound
+          (inl (none_left c.frontiers.first rows (omega (arith, past, c.len.ensures)))) n (length-table n rows))
+      | inr (inl bound) ↦ ended n step sources c.args.most c.args.until (level_table n rows)
+          (found step sources (level_table n rows) rest d c.args.most i.search i.flat i.bound
+          (inr (bound_is c.args.most d bound i.bound)) n (length-table n rows))
+      | inr (inr there) ↦
+          let told = found_there n rows c.args.until c.requires.until
+          (ap (λ (rs : List (VertexId × ℕ)). is_found rs c.args.until) (sym c.deref.ensures.value) ∙ sym c.is_found.ensures ∙ there) in
+          cut_off step sources (level_table n rows) rest [] d i.search n c.args.most c.args.until (length-table n rows) told.0 told.1
     ]
+
+pub returns-then-branch-clause-levels : goal.returns-then-branch-clause-levels
+returns-then-branch-clause-levels g c =
+    let step = g.S.Steps.leads c.args.steps.now in
+    let sources = c.args.sources.now in
+    let n = g.S.Steps.vertices c.args.steps.now in
+    let new : List (VertexId × ℕ) = c.advance.new.rows.items in
+    let early = c.in_ok-advance.ensures.early c.if-branch.true in
+    let cut = early.1 sources c.frontiers.invariant.search in
+    let told = found_there n new c.args.until c.requires.until early.0 in
+    cut_off step sources (level_table n new) cut.0 cut.1 c.frontiers.depth cut.2 n c.args.most c.args.until (length-table n new) told.0 told.1

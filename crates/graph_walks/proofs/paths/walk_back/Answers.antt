@@ -16,7 +16,7 @@ back-preserved g c =
     let now : IsBack step c.args.source c.args.target c.args.level levels c.back.path.items (suc p) at =
     subst (λ (k : ℕ). IsBack step c.args.source c.args.target c.args.level levels c.back.path.items k at) (sym here) c.back.invariant in
     step_back step n c.args.source c.args.target c.requires.levels.0 levels c.requires.levels.1 c.args.level
-    (λ a b edge. let in' = c.requires.within b a edge in (in'.1, in'.0)) c.back.path.items p at c.least_at-at.result now
+    (λ a b edge. let in' = c.requires.within b a edge in (in'.1, in'.0)) c.requires.levels.2 c.back.path.items p at c.least_at-at.result now
     (λ u edge has.
     let there : Contains c.deref.result.now u =
     subst (λ (xs : List ℕ). Contains xs u) (sym c.deref.ensures.value) ((c.in_ok-list_next.ensures u).1 edge) in
@@ -34,6 +34,6 @@ returns g c =
     let levels = c.args.levels.now in
     let zero_left : c.back.place ≡ 0 = omega (arith, c.back-test.false) in
     back_at_last step n c.args.source c.args.target c.requires.levels.0 levels c.requires.levels.1 c.args.level
-    (λ a b edge. let in' = c.requires.within b a edge in (in'.1, in'.0)) c.back.path.items c.back.at
+    (λ a b edge. let in' = c.requires.within b a edge in (in'.1, in'.0)) c.requires.levels.2 c.back.path.items c.back.at
     (subst (λ (k : ℕ). IsBack step c.args.source c.args.target c.args.level levels c.back.path.items k c.back.at) zero_left c.back.invariant)
     c.requires.level
