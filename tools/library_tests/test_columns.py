@@ -2,7 +2,7 @@
 import random
 import unittest
 from collections import Counter
-from typing import List, Tuple
+from typing import List, Set, Tuple
 
 from calls import Batch, Code, Desk, Operation, Refused, Version, fields, interface, view, whole
 from places import library
@@ -150,35 +150,45 @@ class Columns(unittest.TestCase):
         self.assertEqual(len(self.batch), 200)
 
 
-def draw(made: random.Random) -> Tuple[List[bytes], List[Tuple[int, int, int, int]]]:
-    """A dictionary, in which some names stand twice, some aren't used and some are no names, and insertions by places in it."""
-    names = [made.choice([b"a", b"b", b"cc", b"d4", b"ee", b"f"]) for _ in range(made.randrange(1, 9))]
+Row = Tuple[int, int, int, int]
+
+
+def draw(made: random.Random) -> Tuple[List[bytes], List[Row]]:
+    """A dictionary, in which some names stand twice, some aren't used and some are no names, and insertions by places in it. A
+    long one has more places than those of which so small a batch keeps the numbers."""
+    names = [made.choice([b"a", b"b", b"cc", b"d4", b"ee", b"f"]) for _ in range(made.choice([made.randrange(1, 9), 500]))]
     if made.random() < 0.1:
-        names[made.randrange(len(names))] = made.choice([b"", b"no name", b"\xff", b"n" * 65])
-    places = made.choices(range(len(names)), k=made.randrange(2, 80))
+        names[made.randrange(min(len(names), 9))] = made.choice([b"", b"no name", b"\xff", b"n" * 65])
+    places = made.choices(made.sample(range(len(names)), min(len(names), 9)), k=made.randrange(2, 80))
     return names, [(one, other, made.randrange(-9, 9), made.randrange(99)) for one, other in zip(places, places[1:])]
 
 
 class Insertions(unittest.TestCase):
-    """Insertions of one kind in columns, beside the same ones pushed one by one."""
+    """Insertions of one kind in columns, beside the same ones in batches that are pushed."""
 
     def test_what_columns_leave_is_what_one_after_another_leave(self) -> None:
         told: Counter[Code] = Counter()
+        overflowed = 0
         for seed in range(2_000):
             made = random.Random(seed)
-            limits = (made.choice([3, 5, 16]), made.choice([1, 2, 3]), 100)
-            desks = [Desk(library(), 256, limits) for _ in range(2)]
+            limits, blocks = (made.choice([3, 5, 16]), made.choice([1, 2, 3]), 100), made.choice([16, 256])
+            # (an insertion of a weight past the limit overflows: its names stay)
+            weight = made.choice([6, 1 << 40])
+            desks = [Desk(library(), blocks, limits, weight) for _ in range(2)]
             for _ in range(made.randrange(1, 5)):
                 names, rows = draw(made)
-                kind = made.choice([b"k", b"l", b"m"])
-                told[self.insert_in_both(desks, kind, names, rows)] += 1
+                code, counts = self.insert_in_both(desks, made.choice([b"k", b"l", b"m"]), names, rows)
+                told[code] += 1
+                overflowed += counts.overflowed
             versions = [desk.hold() for desk in desks]
             self.assertEqual(whole(versions[0]), whole(versions[1]), seed)
             for it in (*versions, *desks):
                 it.free()
-        self.assertLessEqual({Code.OK, Code.BAD_NAME, Code.NAMES_FULL, Code.KINDS_FULL}, set(told))
+        self.assertLessEqual({Code.OK, Code.BAD_NAME, Code.NAMES_FULL, Code.KINDS_FULL, Code.BLOCKS_FULL}, set(told))
+        self.assertGreater(overflowed, 100)
 
-    def insert_in_both(self, desks: List[Desk], kind: bytes, names: List[bytes], rows: List[Tuple[int, int, int, int]]) -> Code:
+    def insert_in_both(self, desks: List[Desk], kind: bytes, names: List[bytes],
+                       rows: List[Row]) -> Tuple[Code, interface.Counts]:
         """Inserts the rows in columns and one by one, and hands back what both were told."""
         code, done, counts = desks[0].insert_columns(kind, names, rows)
         batch = Batch(library())
@@ -193,7 +203,52 @@ class Insertions(unittest.TestCase):
             self.assertEqual((code, done, fields(counts)), (Code.OK, len(rows), alone))
         finally:
             batch.free()
-        return code
+        return code, counts
+
+    def test_names_of_a_load_that_run_out(self) -> None:
+        """10,000 insertions, of which names are new in each batch, or there are too few: a batch of them all beside batches of
+        4,096. The rows before the 4,096 in which a name is one too many are in."""
+        ends = set()
+        for seed in range(24):
+            made = random.Random(seed)
+            words = [b"n%d" % it for it in range(400)]
+            # (each word stands at two places or more, and the last places aren't used)
+            names = made.sample(words + words + made.choices(words, k=300), 1_100)
+            rows = [(made.randrange(20 + it // 11), made.randrange(20 + it // 11), 1, it) for it in range(10_000)]
+            limit = made.choice([100, 340, 390, 400])
+            done = self.last_that_fits(names, rows, limit)
+            ends.add(done)
+            for blocks in (8_000, 40_000):
+                with self.subTest(seed=seed, blocks=blocks):
+                    self.check_load(names, rows, (limit, 1, 100), blocks, done)
+        self.assertEqual(ends, {0, 4_096, 8_192, 10_000})
+
+    def last_that_fits(self, names: List[bytes], rows: List[Row], limit: int) -> int:
+        """How many rows are in whose names are no more than the limit, in parts of 4,096."""
+        known: Set[bytes] = set()
+        for at, (source, target, *_) in enumerate(rows):
+            known |= {names[source], names[target]}
+            if len(known) > limit:
+                return at // 4_096 * 4_096
+        return len(rows)
+
+    def check_load(self, names: List[bytes], rows: List[Row], limits: Tuple[int, int, int], blocks: int, done: int) -> None:
+        """Loads rows, of which so many are in, and compares what is there with batches of 4,096 of them."""
+        desks, batch, sums = [Desk(library(), it, limits) for it in (blocks, 8_000)], Batch(library()), [0] * 6
+        code, told, counts = desks[0].insert_columns(b"k", names, rows)
+        self.assertEqual((code, told), (Code.OK if done == len(rows) else Code.NAMES_FULL, done))
+        for start in range(0, done, 4_096):
+            operations: List[Operation] = [(INSERT, 0, *row) for row in rows[start:min(start + 4_096, done)]]
+            self.assertEqual(batch.append([b"k"], names, operations), (Code.OK, len(operations)))
+            sums = [one + other for one, other in zip(sums, fields(desks[1].apply(batch))[1:])]
+            desks[1].collect()
+        self.assertEqual(list(fields(counts))[1:], sums)
+        versions = [desk.hold() for desk in desks]
+        # (which place of its row an edge has depends on what the row's blocks held at the end of each batch)
+        one, other = ((it.names(), it.kind_names(), sorted(it.edges(view(), 4_096)), it.degrees(view())) for it in versions)
+        self.assertEqual(one, other)
+        for it in (*versions, batch, *desks):
+            it.free()
 
 
 if __name__ == "__main__":

@@ -32,7 +32,7 @@ made_if true names source target name i is =
     known_next (with_name names source) target name i (known_next names source name i is)
 made_if false names source target name i is = is
 
-known_by : (done : Parts) (names : List (List ℕ)) (name : List ℕ) (i : ℕ) → known names name ≡ Some i
+pub known_by : (done : Parts) (names : List (List ℕ)) (name : List ℕ) (i : ℕ) → known names name ≡ Some i
     → known (names_by done names) name ≡ Some i
 known_by (OfEdge change kind source target) names name i is = made_if (makes_names change) names source target name i is
 known_by (OfAll time) names name i is = is
@@ -67,7 +67,7 @@ pub nothing_found : (names : List (List ℕ)) (ops : List NamedOp) → WereFound
 nothing_found names [] = tt
 nothing_found names (op ∷ ops) = tt
 
-itself : (o : Option ℕ) → IfSome o (λ n. o ≡ Some n)
+pub itself : (o : Option ℕ) → IfSome o (λ n. o ≡ Some n)
 itself (Some n) = refl
 itself None = tt
 

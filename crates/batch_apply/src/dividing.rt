@@ -13,14 +13,16 @@ ghost use Rattle.graph_version.specs.Versions.{content, IsVersion};
 ghost use Rattle.graph_version.specs.Rows.{row_of};
 ghost use Rattle.batch_shards.specs.Done.{layout_by, sources_in};
 ghost use Rattle.batch_shards.specs.Spending.{needed};
-ghost use Rattle.batch_apply.specs.Plan.{shown_op, WereFound, IsInRange};
+ghost use Rattle.batch_apply.specs.Plan.{shown_op, IsInRange};
 ghost use Rattle.graph_types.specs.Refusals.{MeetsNeitherLimit, IsLimitRefusal};
 ghost use Rattle.batch_apply.specs.Shards.{IsShardOf, latest_expiry};
 ghost use Rattle.batch_apply.specs.OldRows.{AreOldRows};
+ghost use Rattle.batch_apply.specs.Listed.{IsKnown};
 
+use crate::listed::KnownEnds;
 use crate::naming::resolve_batch;
 use crate::old::OldRow;
-use crate::resolve::{Ends, ResolvedOp};
+use crate::resolve::ResolvedOp;
 use crate::shards::{Needing, shard_for};
 use batch_shards::Shard;
 use graph_types::{ApplyError, NamedOp};
@@ -37,7 +39,7 @@ pub struct NamedBatch {
     pub ops: Vec<ResolvedOp>,
 }
 
-/// Resolves the names of a batch's operations over a version and its names. This was found of the ends of the first among these.
+/// Resolves the names of a batch's operations over a version and its names. This is known of the ends of the first among these.
 ///
 /// `NamesFull` where the batch would leave more vertex names than the limits allow, else `KindsFull` where it would
 /// leave more kinds, and `OutOfMemory` where a growth was refused. The books share the version's names, and copy no text
@@ -47,11 +49,11 @@ pub fn name_ops(
     version: &Version,
     names: &NameBook,
     ops: &[NamedOp],
-    found: &[Ends],
+    found: &KnownEnds<'_>,
 ) -> Result<NamedBatch, ApplyError>
     requires names { names.now ≡ vertex_book (content version.now) }
     requires batch { IsBatch ops.now }
-    requires found { WereFound (content version.now).names ops.now found.now }
+    requires found { IsKnown (content version.now).names ops.now found.now }
     ensures names { IfOk result (λ n. n.names ≡ vertex_book (after_all ops.now (content version.now))) }
     ensures kinds { IfOk result (λ n. n.kinds ≡ kind_book (after_all ops.now (content version.now))) }
     ensures ops { IfOk result (λ n. map shown_op n.ops.items ≡ resolved ops.now (content version.now)) }

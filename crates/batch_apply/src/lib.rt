@@ -11,6 +11,7 @@ mod dividing;
 mod finding;
 mod gathering;
 mod laws;
+mod listed;
 mod naming;
 mod old;
 mod own_sources;
@@ -29,7 +30,8 @@ pub use laws::{
     law_all_written, law_batch_totals, law_needs, law_needs_example, law_shard_results,
     law_sum_all, law_worker_rows,
 };
-pub use planning::{plan, plan_shared, plan_with};
+pub use listed::{KnownEnds, NameList};
+pub use planning::{plan, plan_known, plan_shared, plan_with};
 pub use plans::Plan;
 pub use ranks::{Ranks, rank};
 pub use source_laws::law_sources_within;

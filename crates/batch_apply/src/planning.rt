@@ -4,12 +4,14 @@ ghost use Rattle.std.specs.Prelude.{◌≡◌, ◌+◌, ◌<◌, length, IfOk, I
 ghost use Rattle.graph_version.specs.Versions.{content};
 ghost use Rattle.graph_version.specs.Rows.{row_of};
 ghost use Rattle.batch_apply.specs.OldRows.{AreOldRows, expiry_time};
+ghost use Rattle.batch_apply.specs.Listed.{IsKnown};
 ghost use Rattle.graph_types.specs.Valid.{IsBatch};
 ghost use Rattle.graph_types.specs.Refusals.{MeetsNeitherLimit, IsLimitRefusal};
 ghost use Rattle.batch_apply.specs.Planned.{IsPlan, IsSharedPlan, workers_for};
 
 use crate::dividing::{NamedBatch, Shards, name_ops, shards_at_once, shards_for};
 use crate::finding::look_up;
+use crate::listed::KnownEnds;
 use crate::old::{OldRow, old_rows};
 use crate::plans::Plan;
 use graph_types::{ApplyError, Batch, NamedOp};
@@ -38,24 +40,53 @@ pub fn plan(
     ensures limits { OnOk result (MeetsNeitherLimit batch.now (content version.now)) }
     ensures refused { IfErr result (λ error. IsLimitRefusal error batch.now (content version.now)) }
 {
-    plan_alone(alloc, version, batch.ops(), workers)
+    plan_alone(
+        alloc,
+        version,
+        batch.ops(),
+        workers,
+        &KnownEnds::Looked(&[]),
+    )
 }
 
-/// Plans operations as [`plan`] does a batch.
+/// Plans a batch as [`plan`] does, for one worker, where this is known of the ends of its operations. What the plan is doesn't
+/// depend on it.
+///
+/// ```
+/// let listing = NameList { sources, targets, names: 1_000 };
+/// let plan = plan_known(alloc, &version, &batch, &KnownEnds::Listed(listing))?;
+/// ```
+pub fn plan_known(
+    alloc: Global,
+    version: &Version,
+    batch: &Batch,
+    known: &KnownEnds<'_>,
+) -> Result<Plan, ApplyError>
+    requires known { IsKnown (content version.now).names batch.now known.now }
+    ensures plan { IfOk result (IsPlan 1 batch.now (content version.now) (row_of version.now.rows)) }
+    ensures limits { OnOk result (MeetsNeitherLimit batch.now (content version.now)) }
+    ensures refused { IfErr result (λ error. IsLimitRefusal error batch.now (content version.now)) }
+{
+    plan_alone(alloc, version, batch.ops(), 1, known)
+}
+
+/// Plans operations as [`plan`] does a batch, where this is known of their ends.
 fn plan_alone(
     alloc: Global,
     version: &Version,
     ops: &[NamedOp],
     workers: usize,
+    known: &KnownEnds<'_>,
 ) -> Result<Plan, ApplyError>
     requires workers { 0 < workers }
     requires batch { IsBatch ops.now }
+    requires known { IsKnown (content version.now).names ops.now known.now }
     ensures plan { IfOk result (IsPlan workers ops.now (content version.now) (row_of version.now.rows)) }
     ensures limits { OnOk result (MeetsNeitherLimit ops.now (content version.now)) }
     ensures refused { IfErr result (λ error. IsLimitRefusal error ops.now (content version.now)) }
 {
     let old = old_rows(alloc, version, ops)?;
-    let named = name_ops(alloc, version, version.names(), ops, &[])?;
+    let named = name_ops(alloc, version, version.names(), ops, known)?;
     let planned = shards_for(alloc, workers, named.ops.as_slice(), old.as_slice())?;
     Ok(plan_of(named, planned))
 }
@@ -101,7 +132,7 @@ fn plan_ops<R: Threads + Sync>(
 {
     let names = version.names();
     let found = look_up(rt, alloc, names, ops, workers)?;
-    let named = name_ops(alloc, version, names, ops, &found)?;
+    let named = name_ops(alloc, version, names, ops, &KnownEnds::Looked(&found))?;
     let planned = shards_at_once(rt, alloc, workers, named.ops.as_slice(), old)?;
     Ok(plan_of(named, planned))
 }

@@ -1,6 +1,7 @@
 -- One operation more of columns.
 use Rattle.std.proofs.Common.{◌≡◌, ◌≤◌, ℕ, zero, suc, ◌+◌, ◌-◌, List, [], ◌∷◌, ◌++◌, length, Option, Some, None, refl, sym, ap, ◌∙◌, arith}
-use Rattle.std.proofs.Common.{length-append, append_assoc, add-one}
+use Rattle.std.proofs.Common.{length-append, append_assoc, add-one, take}
+use Rattle.std.proofs.lemmas.List.{take_at}
 use Rattle.std.specs.Prelude.{Ok}
 use Rattle.graph_types.specs.declared.batches.NamedOp.{NamedOp}
 use Rattle.graph_types.specs.Limits.{most_operations}
@@ -33,6 +34,10 @@ inserted_op limit (Some op) old new done is = (op, refl, is.1)
 -- a batch, and the operations of so many places behind it
 abbrev pub Extends : OperationTable → ℕ → ℕ → List NamedOp → List NamedOp → Type 0
 Extends t from n old new = (ops : List NamedOp) × (operations_from t from n ≡ Some ops) × (new ≡ old ++ ops)
+
+-- and what the batch had stays in front
+pub own_stay : (t : OperationTable) (from n : ℕ) (old new : List NamedOp) → Extends t from n old new → take (length old) new ≡ old
+own_stay t from n old new (ops, are, is) = ap (take (length old)) is ∙ take_at old ops (length old) refl
 
 -- each place has one operation
 pub one_longer : (limit : ℕ) (o : Option NamedOp) (old new : List NamedOp) (done : Unit {0}) → IsInserted limit o old new (Ok done)

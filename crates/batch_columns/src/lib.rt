@@ -8,4 +8,4 @@ mod operations;
 
 pub use bytes::{push_add, push_expire, push_insert, push_remove};
 pub use columns::{InsertError, insert_numbers, name_at};
-pub use operations::{Operations, OperationsError, are_alike, with_operations};
+pub use operations::{Operations, OperationsError, append_operations, are_alike};

@@ -1,6 +1,6 @@
 //! Operations of any sort, in columns.
 
-ghost use Rattle.std.specs.Prelude.{◌≡◌, ◌≤◌, ◌<◌, ◌&&◌, length, true, IsTrue, IfOk, IfErr, MatchResult, Ok, Err};
+ghost use Rattle.std.specs.Prelude.{◌≡◌, ◌≤◌, ◌<◌, ◌&&◌, length, take, true, IsTrue, OnOk, OnErr, IfErr, MatchResult, Ok, Err};
 ghost use Rattle.graph_types.specs.Limits.{most_operations};
 ghost use Rattle.batch_columns.specs.Dictionaries.{IsInserted};
 ghost use Rattle.batch_columns.specs.Operations.{table_of, edge_operation_at, operation_at, IsExtended, RefusesOperations};
@@ -9,7 +9,7 @@ ghost use Rattle.batch_columns.specs.Operations as specs;
 use crate::bytes::{push_add, push_expire, push_insert, push_remove};
 use crate::columns::{InsertError, name_at};
 use graph_types::{Batch, PushError};
-use std::alloc::{AllocError, Global};
+use std::alloc::Global;
 use thiserror::Error;
 
 /// The sorts of operations, as a column has them.
@@ -125,47 +125,35 @@ pub fn are_alike(operations: &Operations<'_>) -> bool
         && operations.times.len() == count
 }
 
-/// A batch like another; where that is empty, with room for so many operations.
-fn copy_with_room(alloc: Global, batch: &Batch, count: usize) -> Result<Batch, AllocError>
-    ensures { IfOk result (λ copy. copy ≡ batch.now) }
+/// Gives an empty batch room for so many operations, where there is memory for it.
+fn make_room(alloc: Global, batch: &mut Batch, count: usize)
+    ensures { batch.new ≡ batch.old }
 {
     if batch.is_empty() {
-        Ok(Batch::with_room(alloc, count))
-    } else {
-        batch.clone()
+        *batch = Batch::with_room(alloc, count);
     }
 }
 
-/// A batch with the operations from place `done` on behind its own: as many as there are, and as it has room for if it may have as
-/// many as the limit. `done` becomes the first place that isn't in; or, where an operation is refused, the place of the first that
-/// is. Where memory runs out `done` stays as it was, so that the same call can be made again.
-///
-/// ```
-/// let mut done = 0;
-/// let batch = with_operations(alloc, &Batch::new(alloc), OPERATION_LIMIT, &operations, &mut done)?;
-/// ```
-pub fn with_operations(
+/// Appends the operations from a place on, until there are no more, or the batch has as many as the limit, or one is refused. Its own
+/// stay in front.
+fn push_from(
     alloc: Global,
-    batch: &Batch,
+    batch: &mut Batch,
     limit: usize,
     operations: &Operations<'_>,
     done: &mut u64,
-) -> Result<Batch, OperationsError>
-    requires { limit ≤ most_operations }
-    ensures extended { IfOk result (IsExtended limit (table_of operations.now) done.old batch.now done.new) }
-    ensures refused { IfErr result (RefusesOperations limit (table_of operations.now) done.old batch.now done.new) }
+) -> Result<(), OperationsError>
+    requires limit { limit ≤ most_operations }
+    requires alike { specs.are_alike (table_of operations.now) ≡ true }
+    ensures extended { OnOk result (IsExtended limit (table_of operations.now) done.old batch.old done.new batch.new) }
+    ensures refused { IfErr result (RefusesOperations limit (table_of operations.now) done.old batch.old done.new) }
+    ensures own { take (length batch.old) batch.new ≡ batch.old }
 {
-    if !are_alike(operations) {
-        return Err(OperationsError::BadLength);
-    }
     let count = operations.sorts.len();
     let mut place = *done as usize;
-    let more = count.saturating_sub(place).min(limit);
-    let Ok(mut longer) = copy_with_room(alloc, batch, more) else {
-        return Err(OperationsError::OutOfMemory);
-    };
-    while longer.len() < limit && place < count {
-        match push_at(alloc, &mut longer, limit, operations, place) {
+    make_room(alloc, batch, count.saturating_sub(place).min(limit));
+    while batch.len() < limit && place < count {
+        match push_at(alloc, batch, limit, operations, place) {
             Ok(()) => place += 1,
             Err(InsertError::Refused(PushError::OutOfMemory)) => {
                 return Err(OperationsError::OutOfMemory);
@@ -177,5 +165,38 @@ pub fn with_operations(
         }
     }
     *done = place as u64;
-    Ok(longer)
+    Ok(())
+}
+
+/// Appends the operations from place `done` on: as many as there are, and as the batch has room for if it may have as many as the
+/// limit. `done` becomes the first place that isn't in.
+///
+/// Where an operation is refused, `done` becomes the place of the first that is; where memory runs out it stays as it was, so that
+/// the same call can be made again. The batch is as it was then.
+///
+/// ```
+/// let mut done = 0;
+/// append_operations(alloc, &mut batch, OPERATION_LIMIT, &operations, &mut done)?;
+/// ```
+pub fn append_operations(
+    alloc: Global,
+    batch: &mut Batch,
+    limit: usize,
+    operations: &Operations<'_>,
+    done: &mut u64,
+) -> Result<(), OperationsError>
+    requires { limit ≤ most_operations }
+    ensures extended { OnOk result (IsExtended limit (table_of operations.now) done.old batch.old done.new batch.new) }
+    ensures refused { IfErr result (RefusesOperations limit (table_of operations.now) done.old batch.old done.new) }
+    ensures unchanged { OnErr result (batch.new ≡ batch.old) }
+{
+    if !are_alike(operations) {
+        return Err(OperationsError::BadLength);
+    }
+    let own = batch.len();
+    let answer = push_from(alloc, batch, limit, operations, done);
+    if answer.is_err() {
+        batch.truncate(own);
+    }
+    answer
 }

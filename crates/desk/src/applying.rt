@@ -8,6 +8,7 @@ ghost use Rattle.graph_types.specs.Limits.{most_operations};
 ghost use Rattle.graph_version.specs.Rows as rows;
 ghost use Rattle.graph_version.specs.Batches.{batch_value};
 ghost use Rattle.graph_version.specs.Versions.{VersionView, content};
+ghost use Rattle.batch_apply.specs.Listed.{IsKnown};
 ghost use Rattle.batch_apply.specs.Rewritten.{IsRewritten};
 ghost use Rattle.batch_shards.specs.RowBlocks.{shared_numbers};
 ghost use Rattle.block_reclamation.specs.Status.{is_among, is_free, is_in_use, most_blocks};
@@ -16,7 +17,7 @@ ghost use Rattle.block_reclamation.specs.declared.status.BlockStatus.TheVariants
 ghost use Rattle.desk.specs.Applying.{IsPrepared};
 ghost use Rattle.desk.specs.Refusals.{Refuses, RefusesGrant, IsAdmitted, IsPlanned, asked};
 
-use batch_apply::{Applied, Plan, Rewritten, plan, plan_shared};
+use batch_apply::{Applied, KnownEnds, Plan, Rewritten, plan_known, plan_shared};
 use block_pool::{Grant, Pool};
 use edge_block::Block;
 use graph_types::{ApplyError, Batch, Outcome, VertexId};
@@ -39,16 +40,22 @@ fn is_full(last: &Version) -> bool
     next_number(last) > u64::from(last.limits().batches())
 }
 
-/// The plan of a batch after this version, for one worker.
+/// The plan of a batch after this version, for one worker, where this is known of the ends of its operations.
 #[tactic(auto, using(crate::proofs::Refused::plan_refuses))]
-pub(crate) fn plan_next(alloc: Global, last: &Version, batch: &Batch) -> Result<Plan, ApplyError>
+pub(crate) fn plan_next(
+    alloc: Global,
+    last: &Version,
+    batch: &Batch,
+    known: &KnownEnds<'_>,
+) -> Result<Plan, ApplyError>
+    requires { IsKnown (content last.now).names batch.now known.now }
     ensures planned { IfOk result (IsPlanned last.now 1 batch.now) }
     ensures refused { IfErr result (λ e. (free : ℕ) → Refuses last.now free batch.now e) }
 {
     if is_full(last) {
         return Err(ApplyError::BatchLimit);
     }
-    Ok(plan(alloc, last, batch, 1)?)
+    Ok(plan_known(alloc, last, batch, known)?)
 }
 
 /// The plan of a batch after this version, for so many workers, or for one if it is small.

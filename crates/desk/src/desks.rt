@@ -19,6 +19,7 @@ ghost use Rattle.store_steps.specs.Dates.{AreDated};
 ghost use Rattle.store_steps.specs.Opening.{IsVersionZero, opened_desk};
 ghost use Rattle.store_steps.specs.Acceptances.{Accepts};
 ghost use Rattle.store_steps.specs.Steps.{SimulatesAt, recycling};
+ghost use Rattle.batch_apply.specs.Listed.{IsKnown};
 ghost use Rattle.batch_shards.specs.RowBlocks.{shared_numbers};
 ghost use Rattle.desk.specs.Ready.{IsLoad};
 ghost use Rattle.desk.specs.Refusals.{Refuses, IsWithin, IsPlanned, block_count};
@@ -34,7 +35,7 @@ use crate::last::Last;
 use crate::ready::{Accepted, Granted, Load, Ready, grant_for};
 use crate::told_numbers::ToldNumbers;
 use crate::zero::Zero;
-use batch_apply::{Plan, apply_alone_over};
+use batch_apply::{KnownEnds, Plan, apply_alone_over};
 use block_pool::Pool;
 use block_reclamation::PinCopy;
 use core::mem::replace_with;
@@ -223,8 +224,24 @@ impl Desk {
         ensures refused { IfErr result (λ e. Refuses self.last (count_by is_free self.pool) (batch_value batch) e.1) }
         ensures unchanged { IfErr result (λ e. e.0 ≡ self) }
     {
+        self.begin_known(batch, &KnownEnds::Looked(&[]))
+    }
+
+    /// As `begin`, where this is known of the ends of the batch's operations.
+    fn begin_known(
+        self,
+        batch: Arc<Batch>,
+        known: &KnownEnds<'_>,
+    ) -> Result<Ready, (Desk, ApplyError)>
+        requires known { IsKnown (content self.last).names (batch_value batch) known.now }
+        ensures begun { IfOk result (λ r. (r.old ≡ self) × (r.ops ≡ batch_value batch)) }
+        ensures accepts { IfOk result (λ r. Accepts self (batch_value batch) r.new) }
+        ensures within { OnOk result (IsWithin self.last (count_by is_free self.pool) (batch_value batch)) }
+        ensures refused { IfErr result (λ e. Refuses self.last (count_by is_free self.pool) (batch_value batch) e.1) }
+        ensures unchanged { IfErr result (λ e. e.0 ≡ self) }
+    {
         let alloc = self.allocator();
-        let plan = match plan_next(alloc, self.last(), &batch) {
+        let plan = match plan_next(alloc, self.last(), &batch, known) {
             Ok(plan) => plan,
             Err(error) => return Err((self, error)),
         };
@@ -251,19 +268,43 @@ impl Desk {
         ensures refused { IfErr result (Refuses self.old.last (count_by is_free self.old.pool) (batch_value batch)) }
         ensures unchanged { OnErr result (self.new ≡ self.old) }
     {
-        replace_with(self, batch, Desk::applied)
+        self.apply_known(batch, &KnownEnds::Looked(&[]))
     }
 
-    /// As `apply`, by value.
-    fn applied(self, batch: Arc<Batch>) -> (Desk, Result<Accepted, ApplyError>)
-        ensures accepted { OnOk result.1 (Accepts self (batch_value batch) result.0) }
+    /// As `apply`, where this is known of the ends of the batch's operations: an end that is known isn't looked up.
+    ///
+    /// ```
+    /// let listing = NameList { sources, targets, names: 1_000 };
+    /// let accepted = desk.apply_known(batch, &KnownEnds::Listed(listing))?;
+    /// ```
+    pub fn apply_known(
+        &mut self,
+        batch: Arc<Batch>,
+        known: &KnownEnds<'_>,
+    ) -> Result<Accepted, ApplyError>
+        requires known { IsKnown (content self.old.last).names (batch_value batch) known.now }
+        ensures accepted { OnOk result (Accepts self.old (batch_value batch) self.new) }
+        ensures number { IfOk result (λ a. a.number ≡ length self.new.last.batches) }
+        ensures outcomes { IfOk result (λ a. a.outcomes ≡ outcomes (batch_value batch) (content self.old.last)) }
+        ensures within { OnOk result (IsWithin self.old.last (count_by is_free self.old.pool) (batch_value batch)) }
+        ensures refused { IfErr result (Refuses self.old.last (count_by is_free self.old.pool) (batch_value batch)) }
+        ensures unchanged { OnErr result (self.new ≡ self.old) }
+    {
+        replace_with(self, (batch, known), Desk::applied)
+    }
+
+    /// As `apply_known`, by value.
+    fn applied(self, given: (Arc<Batch>, &KnownEnds<'_>)) -> (Desk, Result<Accepted, ApplyError>)
+        requires known { IsKnown (content self.last).names (batch_value given.0) given.1.now }
+        ensures accepted { OnOk result.1 (Accepts self (batch_value given.entry.0) result.0) }
         ensures number { IfOk result.1 (λ a. a.number ≡ length result.0.last.batches) }
-        ensures outcomes { IfOk result.1 (λ a. a.outcomes ≡ outcomes (batch_value batch) (content self.last)) }
-        ensures within { OnOk result.1 (IsWithin self.last (count_by is_free self.pool) (batch_value batch)) }
-        ensures refused { IfErr result.1 (Refuses self.last (count_by is_free self.pool) (batch_value batch)) }
+        ensures outcomes { IfOk result.1 (λ a. a.outcomes ≡ outcomes (batch_value given.entry.0) (content self.last)) }
+        ensures within { OnOk result.1 (IsWithin self.last (count_by is_free self.pool) (batch_value given.entry.0)) }
+        ensures refused { IfErr result.1 (Refuses self.last (count_by is_free self.pool) (batch_value given.entry.0)) }
         ensures unchanged { OnErr result.1 (result.0 ≡ self) }
     {
-        match self.begin(batch) {
+        let (batch, known) = given;
+        match self.begin_known(batch, known) {
             Ok(ready) => {
                 let (desk, accepted) = ready.finish();
                 (desk, Ok(accepted))

@@ -7,6 +7,7 @@ ghost use Rattle.graph_version.specs.Batches.{batch_value};
 ghost use Rattle.graph_version.specs.declared.versions.Version.{Version};
 ghost use Rattle.graph_version.specs.Versions.{content};
 ghost use Rattle.graph_version.specs.Rebased.{IsRebased};
+ghost use Rattle.batch_apply.specs.Listed.{IsKnown};
 ghost use Rattle.block_reclamation.specs.Status.{is_free, is_retired, is_reclaimable};
 ghost use Rattle.block_reclamation.specs.Board.{IsLeast};
 ghost use Rattle.epoch_core.specs.Worlds.{World};
@@ -29,6 +30,7 @@ use crate::owned_ready::OwnedReady;
 use crate::ready::Accepted;
 use crate::seats::seat_with;
 use crate::zero::Zero;
+use batch_apply::KnownEnds;
 use block_reclamation::{Board, Pin, SEATS, SeatNo};
 use graph_types::{ApplyError, Batch};
 use graph_version::Version;
@@ -142,7 +144,27 @@ impl OwnedDesk {
         ensures snapshots { HeldAreSnapshots self.new }
         ensures unchanged { OnErr result (self.new ≡ self.old) }
     {
-        self.desk.apply(batch)
+        self.apply_known(batch, &KnownEnds::Looked(&[]))
+    }
+
+    /// As `apply`, where this is known of the ends of the batch's operations, as [`Desk::apply_known`] does.
+    pub fn apply_known(
+        &mut self,
+        batch: Arc<Batch>,
+        known: &KnownEnds<'_>,
+    ) -> Result<Accepted, ApplyError>
+        requires known { IsKnown (content self.old.desk.last).names (batch_value batch) known.now }
+        ensures accepted { OnOk result (Accepts self.old.desk (batch_value batch) self.new.desk) }
+        ensures number { IfOk result (λ a. a.number ≡ length self.new.desk.last.batches) }
+        ensures outcomes { IfOk result (λ a. a.outcomes ≡ outcomes (batch_value batch) (content self.old.desk.last)) }
+        ensures within { OnOk result (IsWithin self.old.desk.last (count_by is_free self.old.desk.pool) (batch_value batch)) }
+        ensures refused { IfErr result (Refuses self.old.desk.last (count_by is_free self.old.desk.pool) (batch_value batch)) }
+        ensures held { self.new ≡ record self.old { desk = self.new.desk } }
+        ensures follows { OnOk result (FollowsBatch self.old (batch_value batch) self.new) }
+        ensures snapshots { HeldAreSnapshots self.new }
+        ensures unchanged { OnErr result (self.new ≡ self.old) }
+    {
+        self.desk.apply_known(batch, known)
     }
 
     /// Makes a batch ready, by the caller alone; or refuses it, and gives the desk back as it was, as [`Desk::begin`] does.

@@ -1,2 +1,3 @@
 pub mod Inserted
+pub mod Listed
 pub mod Opened

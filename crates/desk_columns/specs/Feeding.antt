@@ -4,6 +4,7 @@ use Rattle.graph_types.specs.{Limits.{most_operations, operation_limit}, Step.ou
 use Rattle.graph_version.specs.Versions.{content}
 use Rattle.block_reclamation.specs.{Status.is_free}
 use Rattle.store_steps.specs.{Boards.raised_board, Desks.IsCollected, Acceptances.Accepts}
+use Rattle.batch_apply.specs.{Listed.AreEndsListed, declared.listed.NameList.NameList}
 use Rattle.desk.specs.{Owned.{OwnedView, copied}, Refusals.{Refuses, IsWithin}, declared.ready.Accepted.Accepted}
 use Rattle.graph_types.specs.declared.refusals.ApplyError.{ApplyError}
 use Rattle.graph_types.specs.declared.refusals.ApplyError.TheVariants.{PoolEmpty, OutOfMemory as NoMemory}
@@ -105,6 +106,10 @@ batch_length parts c at = min (parts * operation_limit) (length c.sources - at)
 -- a desk takes a batch of so many parts: of one, or of more where a block is free for each of its insertions
 abbrev pub BearsParts : OwnedView → ℕ → Type 0
 BearsParts o parts = (parts ≡ 1) ⊎ ((parts ≤ most_parts) × (parts * operation_limit ≤ count_by is_free o.desk.pool))
+
+-- the ends of a batch's operations are names of a list, at these places
+abbrev pub IsListing : List NamedOp → NameList → Type 0
+IsListing ops listing = (name : ℕ → List ℕ) × AreEndsListed name ops listing.sources.now listing.targets.now
 
 -- so many insertions from a place on, and at least one, are taken as a batch, and counted
 pub record TakesNext (c : Insertions) (at count : ℕ) (old : OwnedView) (counts : Counts) (new : OwnedView) (counted : Counts)

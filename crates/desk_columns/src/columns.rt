@@ -1,6 +1,6 @@
 //! Insertions in columns, in batches.
 
-ghost use Rattle.std.specs.Prelude.{◌≡◌, ◌⊎◌, ◌<◌, ◌≤◌, ◌+◌, ◌*◌, length, count_by, true, List, IfOk, IfErr, OnErr, Some, MatchResult};
+ghost use Rattle.std.specs.Prelude.{◌≡◌, ◌⊎◌, ◌<◌, ◌≤◌, ◌+◌, ◌*◌, drop, length, count_by, true, List, IfOk, IfErr, OnErr, Some, MatchResult};
 ghost use Rattle.graph_types.specs.Limits.{most_operations, operation_limit};
 ghost use Rattle.graph_types.specs.declared.batches.NamedOp.{NamedOp};
 ghost use Rattle.graph_version.specs.Batches.{batch_value};
@@ -8,9 +8,10 @@ ghost use Rattle.block_reclamation.specs.Status.{is_free};
 ghost use Rattle.batch_columns.specs.Dictionaries.{insertion_at, insertions_from, IsInserted};
 ghost use Rattle.desk_counts.specs.Counted.{none_counted, with_outcomes};
 ghost use Rattle.desk_columns.specs.Feeding as specs;
-ghost use Rattle.desk_columns.specs.Feeding.{columns_of, batch_length, most_parts, is_out_of_memory, BearsParts, Collects, IsFeedApplied, IsFirstRefusedRow};
+ghost use Rattle.desk_columns.specs.Feeding.{columns_of, batch_length, most_parts, is_out_of_memory, BearsParts, Collects, IsFeedApplied, IsFirstRefusedRow, IsListing};
 ghost use Rattle.desk_columns.specs.Feeding.{IsTried, RefusesBatch, RefusesNext, TakesFeed, TakesNext, Feeds};
 
+use batch_apply::{KnownEnds, NameList};
 use batch_columns::{InsertError, insert_numbers};
 use desk::{Accepted, ApplyError, OwnedDesk};
 use desk_counts::Counts;
@@ -97,11 +98,16 @@ fn batch_of(
     Ok(batch)
 }
 
-/// Applies a batch to the desk as it is, or refuses it.
-fn apply_once(desk: &mut OwnedDesk, batch: Arc<Batch>) -> Result<Accepted, ApplyError>
+/// Applies a batch, of whose ends this is known, to the desk as it is, or refuses it.
+fn apply_once(
+    desk: &mut OwnedDesk,
+    batch: Arc<Batch>,
+    listing: NameList<'_>,
+) -> Result<Accepted, ApplyError>
+    requires { IsListing (batch_value batch) listing }
     ensures { IsFeedApplied desk.old (batch_value batch) result desk.new }
 {
-    desk.apply(batch)
+    desk.apply_known(batch, &KnownEnds::Listed(listing))
 }
 
 /// Applies a batch; where too few blocks are free it collects, and tries once more with the same one.
@@ -109,15 +115,17 @@ fn apply_collecting(
     desk: &mut OwnedDesk,
     batch: Arc<Batch>,
     again: Arc<Batch>,
+    listing: NameList<'_>,
 ) -> Result<Accepted, ApplyError>
-    requires { batch_value again ≡ batch_value batch }
+    requires again { batch_value again ≡ batch_value batch }
+    requires listed { IsListing (batch_value batch) listing }
     ensures { IsTried desk.old (batch_value batch) result desk.new }
 {
-    match apply_once(desk, batch) {
+    match apply_once(desk, batch, listing) {
         Ok(accepted) => Ok(accepted),
         Err(ApplyError::PoolEmpty { .. }) => {
             let _collected = desk.collect();
-            apply_once(desk, again)
+            apply_once(desk, again, listing)
         }
         Err(error) => Err(error),
     }
@@ -130,6 +138,20 @@ fn count_and_collect(desk: &mut OwnedDesk, counts: &mut Counts, accepted: &Accep
 {
     *counts = counts.with_all(accepted.number, accepted.outcomes.as_slice());
     let _collected = desk.collect();
+}
+
+/// Where the ends of the insertions from a place on stand in the dictionary.
+fn listing_from<'a>(insertions: &Insertions<'a>, from: usize) -> NameList<'a>
+    requires sources { from ≤ length insertions.now.sources.now }
+    requires targets { from ≤ length insertions.now.targets.now }
+    ensures sources { result.sources.now ≡ drop from insertions.now.sources.now }
+    ensures targets { result.targets.now ≡ drop from insertions.now.targets.now }
+{
+    NameList {
+        sources: &insertions.sources[from..],
+        targets: &insertions.targets[from..],
+        names: insertions.ends.len(),
+    }
 }
 
 /// Applies the insertions of a batch of so many parts from a place on, counts them, collects, and tells how many they were.
@@ -163,7 +185,7 @@ fn insert_batch(
     let Ok(again) = Arc::try_clone(&batch) else {
         return Err(InsertColumnsError::OutOfMemory);
     };
-    match apply_collecting(desk, batch, again) {
+    match apply_collecting(desk, batch, again, listing_from(insertions, from)) {
         Ok(accepted) => {
             count_and_collect(desk, counts, &accepted);
             Ok(count)

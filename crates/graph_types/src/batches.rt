@@ -1,6 +1,6 @@
 //! Operations on edges, and batches of them.
 
-ghost use Rattle.std.specs.Prelude.{◌≡◌, ◌<◌, ◌≤◌, [], ◌∷◌, ◌++◌, length, IfOk, OnOk, OnErr, IfErr, ◌⊎◌, ◌↔◌, ◌&&◌, IsTrue};
+ghost use Rattle.std.specs.Prelude.{◌≡◌, ◌<◌, ◌≤◌, [], ◌∷◌, ◌++◌, length, take, IfOk, OnOk, OnErr, IfErr, ◌⊎◌, ◌↔◌, ◌&&◌, IsTrue};
 ghost use Rattle.graph_types.specs.declared.batches.PushError.TheVariants.{OutOfMemory};
 ghost use Rattle.graph_types.specs.Limits.{most_operations, operation_limit};
 ghost use Rattle.graph_types.specs.Valid.{push_refusal, push_refusal_within, IsBatch, IsValid};
@@ -312,6 +312,17 @@ impl Batch {
             Ok(()) => Ok(()),
             Err(_) => Err(PushError::OutOfMemory),
         }
+    }
+
+    /// Has the first operations alone, so many; where there are no more than that, all stay. It takes no memory.
+    ///
+    /// ```
+    /// batch.truncate(1);
+    /// ```
+    pub fn truncate(&mut self, count: usize)
+        ensures { self.new ≡ take count self.old }
+    {
+        self.ops.truncate(count);
     }
 }
 

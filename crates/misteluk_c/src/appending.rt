@@ -6,8 +6,9 @@ ghost use Rattle.batch_columns.specs.Operations.{table_of};
 ghost use Rattle.misteluk_c.specs.Held.{batch_in, Asks};
 ghost use Rattle.misteluk_c.specs.Columns.{TellsColumns, TellsGiven, given_table, IsOperationLimit};
 
-use crate::codes::{BAD_LIMITS, BAD_SIZE, NO_HANDLE, OK, operations_code};
-use batch_columns::{Operations, with_operations};
+use crate::batches::unshare;
+use crate::codes::{BAD_LIMITS, BAD_SIZE, MEMORY, NO_HANDLE, OK, operations_code};
+use batch_columns::{Operations, append_operations};
 use graph_types::MOST_OPERATIONS;
 use std::alloc::Global;
 use store_handles::{Handle, Held};
@@ -80,7 +81,7 @@ fn is_operation_limit(limit: u32) -> bool
     limit >= 1 && limit as usize <= MOST_OPERATIONS
 }
 
-/// Puts a longer batch in the place of one that a handle holds, if it holds one.
+/// Appends to the batch that a handle holds, if it holds one.
 fn append_by(
     alloc: Global,
     batch: &mut Handle,
@@ -102,8 +103,8 @@ fn append_by(
     code
 }
 
-/// Puts a longer batch in the place of one that is held.
-#[tactic(auto, using(crate::proofs::Memory::memory_moves_none))]
+/// Appends to a batch that is held; to one's own copy, where it is shared.
+#[tactic(auto, using(crate::proofs::Memory::columns_not_unshared, crate::proofs::Memory::memory_moves_none))]
 fn append_in(
     alloc: Global,
     held: &mut Held,
@@ -117,16 +118,14 @@ fn append_in(
     ensures memory { result ≡ 1 → done.new ≡ done.old }
     ensures none { batch_in (Some held.old) ≡ None → (held.new ≡ held.old) × (done.new ≡ done.old) }
 {
-    let answer = match &*held {
-        Held::Batch(batch) => with_operations(alloc, batch, limit, operations, done),
-        Held::Shared(batch) => with_operations(alloc, batch, limit, operations, done),
-        _ => return NO_HANDLE,
+    let Ok(()) = unshare(held) else {
+        return MEMORY;
     };
-    match answer {
-        Ok(longer) => {
-            *held = Held::Batch(longer);
-            OK
-        }
+    let Held::Batch(batch) = held else {
+        return NO_HANDLE;
+    };
+    match append_operations(alloc, batch, limit, operations, done) {
+        Ok(()) => OK,
         Err(error) => operations_code(error),
     }
 }

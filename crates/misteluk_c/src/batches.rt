@@ -59,7 +59,7 @@ fn length_of(held: &Held, out: &mut u64) -> u32
 }
 
 /// Has a batch for oneself, where it is shared.
-fn unshare(held: &mut Held) -> Result<(), AllocError>
+pub(crate) fn unshare(held: &mut Held) -> Result<(), AllocError>
     ensures same { batch_in (Some held.new) ≡ batch_in (Some held.old) }
     ensures alone { OnOk result (IsAlone held.new) }
     ensures batch { OnErr result (IsSome (batch_in (Some held.old))) }

@@ -6,8 +6,8 @@ use Rattle.graph_types.proofs.Cases.{err_then}
 use Rattle.edge_block.specs.Batches.{resolved_by}
 use Rattle.edge_block.proofs.ShardResults.{placed_in}
 use Rattle.vertex_names.specs.Book.{Book}
-use Rattle.batch_apply.specs.Plan.{shown_op, WasFound, WereFound, IsInRange, IsSeen, IsUnplanned}
-use Rattle.batch_apply.proofs.{Found.{all_later, first_found, rest_found}, Resolving.{one_more, all_resolved}}
+use Rattle.batch_apply.specs.{Plan.{shown_op, WasFound, IsInRange, IsSeen, IsUnplanned}, Listed.{AreKnown, AreNoted, found_by}}
+use Rattle.batch_apply.proofs.{Notes.{known_first, known_noted, known_rest, nothing_noted}, Resolving.{one_more, all_resolved}}
 use Rattle.batch_apply.proofs.Leaving.{unplanned_all}
 use Rattle.batch_apply.proofs.naming.resolve_batch.Goals as goal
 
@@ -34,9 +34,17 @@ loop-k-preserved c =
       few = ap (λ (b : Book). b.limit) c.in_ok-resolved.ensures.kinds ∙ c.loop-k.invariant.few;
       within = c.in_ok-resolved.ensures.within;
       seen = subst (λ l. IsSeen l c.in_ok-resolved.resolved.kind) (sym more_kinds) c.in_ok-resolved.ensures.kind;
-      before = subst (λ l. WereFound l rest (drop (k + 1) c.args.found_before.now)) (sym more_names)
-          (all_later names op rest (drop (k + 1) c.args.found_before.now) (rest_found names op rest c.args.found_before.now k
-          (subst (λ os. WereFound names os (drop k c.args.found_before.now)) step c.loop-k.invariant.before)));
+      known =
+          let (name, are, right) = c.loop-k.invariant.known in
+          let first = subst (λ os. AreKnown name names os c.args.known.now k) step are in (
+            name,
+            subst (λ l. AreKnown name l rest c.args.known.now (k + 1)) (sym more_names)
+                (known_rest name names op rest c.args.known.now k first),
+            subst (λ l. AreNoted name l c.note_ends.new.noted.items) (sym more_names)
+                (subst (λ l. AreNoted name (names_after op names) l) (sym c.note_ends.ensures)
+                (known_noted name names _ op rest c.args.most c.args.known.now c.loop-k.noted.items k (shown_op c.in_ok-resolved.resolved.op)
+                first right c.in_ok-resolved.ensures.op)),
+          );
     }
 
 pub resolve_op-requires-clause-found : goal.resolve_op-requires-clause-found
@@ -45,9 +53,27 @@ resolve_op-requires-clause-found c =
     let step : drop k c.args.ops.now ≡ c.index-ops-k.result ∷ drop (k + 1) c.args.ops.now =
     rw add-one (drop-cons c.args.ops.now k c.index-ops-k.result c.loop-k-test.true)
     ∙ ap (λ (o : NamedOp). o ∷ drop (k + 1) c.args.ops.now) (sym c.index-ops-k.is) in
-    subst (λ e. WasFound c.loop-k.names.names c.index-ops-k.result e) (sym c.found_at.ensures)
-    (first_found c.loop-k.names.names c.index-ops-k.result (drop (k + 1) c.args.ops.now) c.args.found_before.now k
-    (subst (λ os. WereFound c.loop-k.names.names os (drop k c.args.found_before.now)) step c.loop-k.invariant.before))
+    let (name, are, right) = c.loop-k.invariant.known in
+    let first = subst (λ os. AreKnown name c.loop-k.names.names os c.args.known.now k) step are in
+    subst (λ e. WasFound c.loop-k.names.names c.index-ops-k.result e) (sym c.found_by.ensures)
+    (subst (λ l. WasFound c.loop-k.names.names c.index-ops-k.result (found_by c.args.known.now l k)) (sym c.deref.ensures.value)
+    (known_first name c.loop-k.names.names c.index-ops-k.result (drop (k + 1) c.args.ops.now) c.args.known.now c.loop-k.noted.items k
+    right first))
+
+pub loop-k-init : goal.loop-k-init
+loop-k-init c =
+    let (name, are) = c.requires.known in
+    record {
+      names = search rules;
+      kinds = search rules;
+      found = grind (arith, common_steps);
+      changes = grind (arith, common_steps);
+      limit = search rules;
+      few = search rules;
+      within = search rules;
+      seen = search rules;
+      known = (name, are, nothing_noted name c.args.names.now.names c.no_notes-noted.result.items c.no_notes-noted.ensures);
+    }
 
 pub returns-clause-placed : goal.returns-clause-placed
 returns-clause-placed c =

@@ -1,7 +1,7 @@
-use Rattle.std.proofs.Common.{◌≡◌, ◌++◌, drop, map, All}
+use Rattle.std.proofs.Common.{◌≡◌, ◌++◌, ℕ, List, drop, map, All}
 use Rattle.edge_block.specs.Batches.{resolved_by}
 use Rattle.graph_types.specs.Parts.{names_after_all, kinds_after_all}
-use Rattle.batch_apply.specs.Plan.{shown_op, WereFound, Fits, IsInRange, IsSeen}
+use Rattle.batch_apply.specs.{Plan.{shown_op, Fits, IsInRange, IsSeen}, Listed.{AreKnown, AreNoted}}
 use Rattle.batch_apply.proofs.naming.resolve_batch.Given as goal
 
 -- what is left of the operations leaves what all leave
@@ -16,5 +16,6 @@ invariant-loop-k l = record {
   few : l.kinds.limit ≡ l.initial.kinds.limit;
   within : Fits l.names × Fits l.kinds;
   seen : IsSeen l.kinds.names l.seen;
-  before : WereFound l.names.names (drop l.k l.ops) (drop l.k l.found_before);
+  known : (name : ℕ → List ℕ) × AreKnown name l.names.names (drop l.k l.ops) l.known l.k
+      × AreNoted name l.names.names l.noted.items;
 }

@@ -2,11 +2,7 @@ use Rattle.std.proofs.Common.{◌∙◌, map, ap, sym, subst, length}
 use Rattle.graph_version.specs.{Versions.content, Rows.row_of}
 use Rattle.batch_apply.specs.{Plan.shown_op, OldRows.{AreOldRows, expiry_time}, declared.plans.Plan.Plan}
 use Rattle.batch_apply.proofs.{Needs.few_old_rows, Planned.{planned, old_resolved}}
-use Rattle.batch_apply.proofs.Found.{nothing_found}
 use Rattle.batch_apply.proofs.planning.plan_alone.Goals as goal
-
-pub name_ops-requires-clause-found : goal.name_ops-requires-clause-found
-name_ops-requires-clause-found c = nothing_found (content c.args.version.now).names c.args.ops.now
 
 pub shards_for-requires-clause-few : goal.shards_for-requires-clause-few
 shards_for-requires-clause-few c = rw c.as_slice.ensures.value c.in_ok-named.ensures.few

@@ -1,4 +1,4 @@
-use Rattle.std.proofs.Common.{◌∙◌, map, ap, sym, subst, length}
+use Rattle.std.proofs.Common.{◌∙◌, [], map, ap, sym, subst, length}
 use Rattle.graph_version.specs.{Versions.content, Rows.row_of}
 use Rattle.batch_apply.specs.{Plan.{shown_op, WereFound}, OldRows.expiry_time, declared.plans.Plan.Plan}
 use Rattle.batch_apply.proofs.{Needs.few_old_rows, Planned.{planned, old_resolved}}
@@ -7,11 +7,13 @@ use Rattle.batch_apply.proofs.Found.{looked_up}
 use Rattle.batch_apply.proofs.planning.plan_ops.Goals as goal
 
 pub name_ops-requires-clause-found : goal.name_ops-requires-clause-found
-name_ops-requires-clause-found g c =
-    subst (λ found. WereFound (content c.args.version.now).names c.args.ops.now found) (sym c.deref.ensures.value)
-    (subst (λ (b : Book). WereFound b.names c.args.ops.now c.in_ok-found.found.items) c.names-names.ensures.names
-    (looked_up c.args.workers c.names-names.result.now.names c.args.ops.now c.in_ok-found.found.items
-    c.in_ok-found.ensures.found c.in_ok-found.ensures.alone))
+name_ops-requires-clause-found g c = (
+  λ place. [],
+  subst (λ found. WereFound (content c.args.version.now).names c.args.ops.now found) (sym c.deref.ensures.value)
+      (subst (λ (b : Book). WereFound b.names c.args.ops.now c.in_ok-found.found.items) c.names-names.ensures.names
+      (looked_up c.args.workers c.names-names.result.now.names c.args.ops.now c.in_ok-found.found.items
+      c.in_ok-found.ensures.found c.in_ok-found.ensures.alone)),
+)
 
 pub shards_at_once-requires-clause-few : goal.shards_at_once-requires-clause-few
 shards_at_once-requires-clause-few g c lifetimes outlive = rw c.as_slice.ensures.value c.in_ok-named.ensures.few

@@ -18,6 +18,6 @@ returns-in-Err-PoolEmpty c =
     let collected = c.collect-collected.ensures in
     tried_again c.args.desk.now c.apply_once.new.desk c.collect-collected.new.self c.apply_once-in-Err-PoolEmpty.new.desk
     (batch_value c.args.batch) (batch_value c.args.again) empty.field-0-0 empty.field-0-1 c.apply_once-in-Err-PoolEmpty.result
-    empty.ensures.unchanged c.requires refused
+    empty.ensures.unchanged c.requires.again refused
     (record { desk = collected.collected; board = collected.board; held = collected.held })
     c.apply_once-in-Err-PoolEmpty.ensures
