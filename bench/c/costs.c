@@ -141,6 +141,16 @@ static void of_a_batch(uint32_t turn)
     apply();
 }
 
+/* A batch that takes 8,000 rows, each by a call of its own. */
+static void one_by_one(uint32_t turn)
+{
+    must(append_columns(0, turn % VERTICES, 1));
+    if (turn % 8000 != 7999) return;
+    watch();
+    misteluk_batch_free(&batch);
+    must(misteluk_batch_new(&batch));
+}
+
 static void stat(uint32_t turn)
 {
     misteluk_stat told;
@@ -218,6 +228,7 @@ static void refusals(uint32_t turn)
 static const struct script scripts[] = {
     {"columns into a desk", prepare_none, into_a_desk, 1, 40},
     {"columns of a batch", prepare_tree, of_a_batch, 300, 5000},
+    {"columns one by one", prepare_tree, one_by_one, 8000, 80000},
     {"commits", prepare_tree, commit, 2000, 20000},
     {"stat", prepare_tree, stat, 20000, 20000},
     {"holds", prepare_tree, hold_and_release, 5000, 20000},

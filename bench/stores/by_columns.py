@@ -19,6 +19,8 @@ Figures = Dict[str, float]
 Given = Tuple[str, int, int]
 # How many sessions are opened, and closed, one after another.
 OPENS = 1_000
+# How many lines of a file are written at once.
+LINES = 1 << 20
 WEIGHED = Columns(weight="weight", time="time")
 
 
@@ -119,6 +121,33 @@ def pandas(shape: str, scale: int, edges: int) -> Figures:
     frame = package.DataFrame(frame_of(shape, scale, edges))
     return made(lambda: frame.drop_duplicates(["source", "target"], keep="last"), lambda it: {"edges": len(it)})
 
+
+# A file of edges, and who reads it.
+
+def write_file(path: pathlib.Path, shape: str, scale: int, edges: int) -> None:
+    columns = columns_of(shape, scale, edges)
+    with path.open("w") as file:
+        file.write("source,target,weight,time\n")
+        for place in range(0, edges, LINES):
+            rows = zip(*(it[place:place + LINES].tolist() for it in columns))
+            file.write("".join(["v%d,v%d,%d,%d\n" % row for row in rows]))
+
+
+def load_file(path: pathlib.Path) -> Figures:
+    """Into an empty store."""
+    store = new_store()
+    found = made(lambda: store.load(path, by="set", columns=Columns("source", "target", weight="weight", time="time"),
+                                    progress=False))
+    return {**found, "edges": store.stat().edges}
+
+
+def read_csv(path: pathlib.Path) -> Figures:
+    """pandas' reading alone: a frame of two columns of texts, and two of numbers."""
+    import pandas as package
+    return made(lambda: package.read_csv(path))
+
+
+READS: Dict[str, Callable[[pathlib.Path], Figures]] = {"load_file": load_file, "read_csv pandas": read_csv}
 
 LOADS: Dict[str, Callable[..., Figures]] = {it.__name__: it for it in (opening, batches, client, client_again, igraph, scipy,
                                                                        pandas)}
