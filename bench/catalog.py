@@ -70,6 +70,7 @@ def of_the_library_and_client() -> Iterator[Measurement]:
     yield Measurement("scale", "How do time and memory of the C library grow, up to a million names?", 8, ("numpy",))
     yield Measurement("columns", "How long do loads and exports by columns take, compared with igraph, scipy and pandas?", 15,
                       ("numpy",), ("igraph", "scipy", "pandas"))
+    yield Measurement("large", "How long do openings of 64 million rows and loads of files take?", 12, ("numpy",), ("pandas",))
     yield Measurement("walls", "Is a store right at its greatest limits, and does it refuse what is past them?", 4, ("numpy",))
     yield Measurement("every_call", "Is each call of the C library right over a million names and ten million edges?", 5,
                       ("numpy", "scipy", "igraph"))

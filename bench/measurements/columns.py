@@ -3,13 +3,11 @@ later loads, and what comes out. Each figure is of a process of its own, in turn
 
     python3 -m bench run columns                       all tables, five turns
     python3 -m bench run columns --turns 1 --quick     each shape at 2^14 names
-    python3 -m bench run columns --turns 1 --large     openings of 16 and 64 million rows, and a file of 16 million
 
 `opening` is misteluk_desk_open_columns, `batches` are misteluk_desk_insert_columns of 65,536 insertions each, both by ctypes
 with names as texts in a dictionary; `client` is `Store.load` of NumPy columns into an empty store, `client_again` into one that
-has other edges; `load_file` is `Store.load` of a CSV file into an empty one. igraph's graph has names and two attributes; scipy's
-matrix has weights alone; pandas keeps a frame's last row of each edge, or reads the file. Shapes are those of `scale`. The
-library is the proved one, or the one that MISTELUK_LIBRARY names.
+has other edges. igraph's graph has names and two attributes; scipy's matrix has weights alone; pandas keeps a frame's last row
+of each edge. Shapes are those of `scale`. The library is the proved one, or the one that MISTELUK_LIBRARY names.
 """
 from __future__ import annotations
 
@@ -27,7 +25,7 @@ from bench import tables
 from bench.catalog import is_here
 from bench.measuring import in_turns, stop
 from bench.places import TOP, library
-from bench.stores.by_columns import EXPORTS, LOADS, READS, write_file
+from bench.stores.by_columns import EXPORTS, LOADS
 
 Figures = Dict[str, float]
 Run = Tuple[str, int, int]
@@ -36,8 +34,6 @@ IN_PYTHON: List[Run] = [("rmat", 16, 500_000), ("rmat", 19, 5_000_000), ("rmat",
 QUICK: List[Run] = [("rmat", 14, 1 << 17), ("transfers", 14, 3 << 14)]
 OUT: Run = ("rmat", 16, 500_000)
 NAMES: Run = ("transfers", 19, 400_000)
-LARGE: List[Run] = [("rmat", 20, 16_000_000), ("rmat", 22, 64_000_000)]
-FILE: Run = ("rmat", 16, 500_000)
 # What is told of a load, by its name among the figures.
 FIGURES = {"µs a row": "seconds", "bytes an edge": "bytes", "live blocks": "blocks"}
 PACKAGES = ("igraph", "scipy", "pandas")
@@ -46,17 +42,12 @@ PACKAGES = ("igraph", "scipy", "pandas")
 def options(parser: argparse.ArgumentParser) -> None:
     parser.add_argument("--turns", type=int, default=5, help="how often each is measured (5)")
     parser.add_argument("--quick", action="store_true", help="small graphs alone")
-    parser.add_argument("--large", action="store_true", help="large graphs alone, some minutes and 10 GB")
-    parser.add_argument("--read", nargs=2, metavar=("WHAT", "FILE"), help="one figure of a file, here, as JSON")
     parser.add_argument("--one", nargs=4, metavar=("WHAT", "SHAPE", "SCALE", "EDGES"), help="one figure, here, as JSON")
 
 
 def in_own_process(what: str, run: Run) -> Figures:
-    return figures_of("--one", what, *map(str, run))
-
-
-def figures_of(*words: str) -> Figures:
-    done = subprocess.run([sys.executable, "-m", "bench", "run", "columns", *words], cwd=TOP, stdout=subprocess.PIPE, text=True)
+    words = [sys.executable, "-m", "bench", "run", "columns", "--one", what, *map(str, run)]
+    done = subprocess.run(words, cwd=TOP, stdout=subprocess.PIPE, text=True)
     if done.returncode:
         sys.exit(done.returncode)
     found: Figures = json.loads(done.stdout)
@@ -95,18 +86,6 @@ def loads(whats: Sequence[str], runs: Sequence[Run], turns: int) -> None:
                  for told, name, it in lines))
 
 
-def reads(run: Run, turns: int, room: pathlib.Path) -> None:
-    """What a row of a file takes."""
-    path = room / "edges.csv"
-    write_file(path, *run)
-    works = {it: functools.partial(figures_of, "--read", it, str(path)) for it in READS
-             if it.rpartition(" ")[2] not in PACKAGES or is_here(it.rpartition(" ")[2])}
-    found = {it: median(one["seconds"] for one in some) for it, some in in_turns(works, turns).items()}
-    tables.show(["", f"a file of {run[0]} 2^{run[1]}, {run[2]:,}"],
-                ([f"{it.partition(' ')[0]}: µs a row", f"{seconds / run[2] * 1e6:.2f}"] for it, seconds in found.items()))
-    path.unlink()
-
-
 def exports(run: Run, turns: int) -> None:
     figures = all_figures([f"exports {it}" for it in EXPORTS], [run], turns)
     tables.show([f"{run[0]} 2^{run[1]}, {run[2]:,}", *EXPORTS],
@@ -121,21 +100,11 @@ def measure(words: argparse.Namespace, room: pathlib.Path) -> None:
         run: Tuple[Any, ...] = (shape, int(scale), int(edges))
         print(json.dumps(EXPORTS[name](*run, room) if of_exports else LOADS[name](*run)))
         return
-    if words.read:
-        print(json.dumps(READS[words.read[0]](pathlib.Path(words.read[1]))))
-        return
     print(f"{library()}; Python {sys.version.split()[0]}; load of the machine {os.getloadavg()[0]:.1f}; medians of {words.turns} "
           "turns, processor time; bytes are resident ones, of each row\n")
-    if words.large:
-        loads(("opening",), LARGE, words.turns)
-        print()
-        reads(LARGE[0], words.turns, room)
-        return
     loads(("opening", "batches", "igraph", "scipy"), QUICK if words.quick else FIRST, words.turns)
     print()
     loads(("client", "client_again", "igraph", "pandas"), QUICK if words.quick else IN_PYTHON, words.turns)
-    print()
-    reads(QUICK[0] if words.quick else FILE, words.turns, room)
     for run in QUICK if words.quick else (OUT, NAMES):
         print()
         exports(run, words.turns)

@@ -147,7 +147,7 @@ def read_csv(path: pathlib.Path) -> Figures:
     return made(lambda: package.read_csv(path))
 
 
-READS: Dict[str, Callable[[pathlib.Path], Figures]] = {"load_file": load_file, "read_csv pandas": read_csv}
+READS: Dict[str, Callable[[pathlib.Path], Figures]] = {it.__name__: it for it in (load_file, read_csv)}
 
 LOADS: Dict[str, Callable[..., Figures]] = {it.__name__: it for it in (opening, batches, client, client_again, igraph, scipy,
                                                                        pandas)}

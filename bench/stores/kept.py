@@ -50,11 +50,11 @@ def committed(where: str, given: List[Row], size: int, room: pathlib.Path) -> Sp
     table of SQLite that is synced at each commit."""
     place = room / f"{where}.db"
     if where == "table":
-        opened = sqlite3.connect(place)
+        table = sqlite3.connect(place)
         for words in ("PRAGMA journal_mode=WAL", "PRAGMA synchronous=FULL", TABLE):
-            opened.execute(words)
-        spent = timed(lambda: plain(opened, given, size))[1]
-        opened.close()
+            table.execute(words)
+        spent = timed(lambda: plain(table, given, size))[1]
+        table.close()
     else:
         store: "Store[Any, Any]" = Store() if where == "memory" else Store(place, sync=cast(Any, where))
         with store:
@@ -64,12 +64,17 @@ def committed(where: str, given: List[Row], size: int, room: pathlib.Path) -> Sp
     return spent
 
 
+def opened(place: pathlib.Path) -> "Store[Any, Any]":
+    store: "Store[Any, Any]" = Store(place)
+    return store
+
+
 def replayed(given: List[Row], room: pathlib.Path) -> Tuple[Spent, int]:
     """What it takes to open a file that has these rows in batches of 1,000, and no base; and how many batches that were."""
     place = room / "replayed.db"
     with Store(place, sync="off") as store:
         commits(store, given, 1_000)
-    store, spent = timed(lambda: Store(place))
+    store, spent = timed(lambda: opened(place))
     with store:
         return spent, store.file.recovered.batches
 
@@ -80,7 +85,7 @@ def restarted(edges: int, room: pathlib.Path) -> Tuple[Spent, Spent, int]:
     with Store(place, sync="off") as store:
         store.load(rows(edges, edges // 4), by="set", progress=False)
         base = timed(store.file.compact)[1]
-    store, spent = timed(lambda: Store(place))
+    store, spent = timed(lambda: opened(place))
     with store:
         return base, spent, store.stat().edges
 
