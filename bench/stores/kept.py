@@ -2,6 +2,7 @@
 from __future__ import annotations
 
 import contextlib
+import functools
 import http.client
 import os
 import pathlib
@@ -74,20 +75,20 @@ def replayed(given: List[Row], room: pathlib.Path) -> Tuple[Spent, int]:
     place = room / "replayed.db"
     with Store(place, sync="off") as store:
         commits(store, given, 1_000)
-    store, spent = timed(lambda: opened(place))
-    with store:
-        return spent, store.file.recovered.batches
+    again, spent = timed(functools.partial(opened, place))
+    with again:
+        return spent, again.file.recovered.batches
 
 
 def restarted(edges: int, room: pathlib.Path) -> Tuple[Spent, Spent, int]:
     """What it takes to make a base of so many edges, and to open the file then; and how many edges there are."""
     place = room / "restarted.db"
     with Store(place, sync="off") as store:
-        store.load(rows(edges, edges // 4), by="set", progress=False)
+        store.load([it[1:] for it in rows(edges, edges // 4)], by="set", progress=False)
         base = timed(store.file.compact)[1]
-    store, spent = timed(lambda: opened(place))
-    with store:
-        return base, spent, store.stat().edges
+    again, spent = timed(functools.partial(opened, place))
+    with again:
+        return base, spent, again.stat().edges
 
 
 def sync_takes(room: pathlib.Path) -> float:
