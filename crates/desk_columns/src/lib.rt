@@ -2,7 +2,9 @@
 #![tactic(auto)]
 
 mod columns;
+mod laws;
 mod opening;
 
 pub use columns::{InsertColumnsError, Insertions, insert_columns};
+pub use laws::law_replay;
 pub use opening::{OpenDeskError, open_columns};
