@@ -1,0 +1,4 @@
+pub mod Numbers
+pub mod ReadBack
+pub mod ReadOps
+pub mod Rows
