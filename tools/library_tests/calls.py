@@ -125,6 +125,16 @@ class Batch(Owner):
         must(self.library.batch_length(self.handle, out))
         return out.value
 
+    def records(self) -> bytes:
+        """The operations as records, in a text that has just the room for them."""
+        length, text = c_uint64(), create_string_buffer(1)
+        code = self.library.batch_records(self.handle, text, 0, length)
+        if code == Code.BAD_LENGTH:
+            text = create_string_buffer(length.value)
+            code = self.library.batch_records(self.handle, text, length.value, length)
+        must(code)
+        return text.raw[:length.value]
+
     def free(self) -> None:
         self.library.batch_free(self.handle)
 

@@ -37,6 +37,7 @@ static void batch_insert(void) { code = misteluk_batch_insert(&batch, "k", 1, "0
 static void batch_add(void) { code = misteluk_batch_add(&filled, "k", 1, "00000", 5, "00001", 5, 1, 1); }
 static void batch_remove(void) { code = misteluk_batch_remove(&filled, "k", 1, "00000", 5, "00001", 5); }
 static void batch_length(void) { code = misteluk_batch_length(&filled, &number); }
+static void batch_records(void) { code = misteluk_batch_records(&filled, text, sizeof text, &number); }
 static const misteluk_columns columns = {sizeof columns, "k", 1, &kind_end, 1, text, VERTICES * 5, ends, VERTICES, insertions,
     VERTICES, first_kind, VERTICES, sources, VERTICES, targets, VERTICES, weights, VERTICES, times, VERTICES};
 
@@ -163,6 +164,7 @@ int main(void)
     measure("batch_remove", batch_remove);
     measure("batch_columns", batch_columns);
     measure("batch_length", batch_length);
+    measure("batch_records", batch_records);
     for (int it = 0; it < BATCH - 1; it++)
         batch_insert();
     measure("batch_insert", batch_insert);

@@ -68,7 +68,7 @@ class Hostile(unittest.TestCase):
         codes = [
             it.batch_length(batch, number), it.batch_insert(batch, *edge, 1, 1), it.batch_add(batch, *edge, 1, 1),
             it.batch_remove(batch, *edge), it.batch_expire(batch, 1),
-            it.batch_columns(batch, table, 1, number),
+            it.batch_columns(batch, table, 1, number), it.batch_records(batch, where, 1, number),
             it.desk_apply(desk, self.batch.handle, counts), it.desk_apply(self.desk.handle, batch, counts),
             it.desk_apply(desk, batch, counts), it.desk_begin(desk, self.batch.handle), it.desk_begin(self.desk.handle, batch),
             it.desk_begin(desk, batch), it.desk_finish(desk, counts), it.desk_finish(self.desk.handle, counts),

@@ -114,6 +114,7 @@ CALLS: "dict[str, Callable[[State], object]]" = {
     "desk_stat": lambda it: fields(it.desk.stat()),
     "desk_release": lambda it: release_one_of_two(it),
     "batch_length": lambda it: len(it.batch),
+    "batch_records": lambda it: it.batch.records(),
     "version_size": lambda it: fields(Version(it.library, it.held.handle).size),
     "version_kind": lambda it: it.held.kind(b"m"),
     "version_kind_names": lambda it: it.held.kind_names(),

@@ -7,3 +7,4 @@ pub mod Columns
 pub mod Edges
 pub mod Texts
 pub mod Walks
+pub mod Records

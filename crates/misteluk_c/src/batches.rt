@@ -3,9 +3,11 @@
 ghost use Rattle.std.specs.Prelude.{◌≡◌, [], Some, None, IsSome, length, OnOk, OnErr};
 ghost use Rattle.graph_types.specs.declared.batches.NamedOp.TheVariants.{Insert, Incr, Remove, Expire};
 ghost use Rattle.misteluk_c.specs.Held.{batch_in, Asks, IsAlone, MakesHeld, TellsPush};
+ghost use Rattle.misteluk_c.specs.Records.{TellsRecords};
 
-use crate::codes::{HELD_ALREADY, MEMORY, NO_HANDLE, OK, push_code};
+use crate::codes::{BAD_LENGTH, HELD_ALREADY, MEMORY, NO_HANDLE, OK, push_code};
 use batch_columns::{push_add, push_expire, push_insert, push_remove};
+use batch_records::records_of;
 use graph_types::{Batch, OPERATION_LIMIT};
 use std::alloc::{AllocError, Global};
 use store_handles::{Handle, Held};
@@ -55,6 +57,51 @@ fn length_of(held: &Held, out: &mut u64) -> u32
         Held::Shared(batch) => *out = batch.len() as u64,
         _ => return NO_HANDLE,
     }
+    OK
+}
+
+/// Writes the records of a batch's operations, and tells how many bytes they are.
+#[unsafe(no_mangle)]
+pub extern "C" fn misteluk_batch_records(
+    alloc: Global,
+    batch: &mut Handle,
+    text: &mut [u8],
+    length: &mut u64,
+) -> u32
+    ensures same { batch.new.held ≡ batch.old.held }
+    ensures told { Asks (batch_in batch.old.held) result (λ ops. TellsRecords ops text.old length.old text.new length.new result) }
+    ensures none { batch_in batch.old.held ≡ None → (text.new ≡ text.old) × (length.new ≡ length.old) }
+{
+    let Some(held) = batch.take(alloc) else {
+        return NO_HANDLE;
+    };
+    let code = records_in(alloc, &held, text, length);
+    batch.put(held);
+    code
+}
+
+fn records_in(alloc: Global, held: &Held, text: &mut [u8], length: &mut u64) -> u32
+    ensures told { Asks (batch_in (Some held.now)) result (λ ops. TellsRecords ops text.old length.old text.new length.new result) }
+    ensures none { batch_in (Some held.now) ≡ None → (text.new ≡ text.old) × (length.new ≡ length.old) }
+{
+    match held {
+        Held::Batch(batch) => write_records(alloc, batch, text, length),
+        Held::Shared(batch) => write_records(alloc, batch, text, length),
+        _ => NO_HANDLE,
+    }
+}
+
+fn write_records(alloc: Global, batch: &Batch, text: &mut [u8], length: &mut u64) -> u32
+    ensures { TellsRecords batch.now text.old length.old text.new length.new result }
+{
+    let Ok(records) = records_of(alloc, batch) else {
+        return MEMORY;
+    };
+    *length = records.len() as u64;
+    if text.len() < records.len() {
+        return BAD_LENGTH;
+    }
+    text[..records.len()].copy_from_slice(records.as_slice());
     OK
 }
 

@@ -3,7 +3,7 @@
 use crate::appending::{OperationColumns, misteluk_batch_columns};
 use crate::batches::{
     misteluk_batch_add, misteluk_batch_expire, misteluk_batch_free, misteluk_batch_insert,
-    misteluk_batch_length, misteluk_batch_new, misteluk_batch_remove,
+    misteluk_batch_length, misteluk_batch_new, misteluk_batch_records, misteluk_batch_remove,
 };
 use crate::column_opening::misteluk_desk_open_columns;
 use crate::desks::{
@@ -37,6 +37,7 @@ const EVERY: View = View {
 /// The codes of a batch's calls, added up.
 fn fill(alloc: Global, batch: &mut Handle) -> u32 {
     let mut length = 0_u64;
+    let mut text = [0_u8; 72];
     let codes = [
         misteluk_batch_new(alloc, batch),
         misteluk_batch_insert(alloc, batch, b"k", b"a", b"b", 1, 2),
@@ -45,6 +46,7 @@ fn fill(alloc: Global, batch: &mut Handle) -> u32 {
         misteluk_batch_expire(alloc, batch, 0),
         append(alloc, batch, 65_536),
         misteluk_batch_length(alloc, batch, &mut length),
+        misteluk_batch_records(alloc, batch, &mut text, &mut length),
     ];
     sum(&codes)
 }
