@@ -6,8 +6,9 @@ from unittest import mock
 from support import Case
 
 from misteluk import Limits
+from misteluk.engine.interface import Code
 from misteluk.engine.operations import Operations, Post
-from misteluk.errors import JournalFault, SequenceTaken
+from misteluk.errors import JournalFault, NoMemory, SequenceTaken
 from misteluk.feeds.steps import FeedMark, FeedPlace
 from misteluk.journal import beside, scripts
 from misteluk.journal.beside import Beside
@@ -129,15 +130,30 @@ class Due(unittest.TestCase):
 
 
 class Writers(unittest.TestCase):
-    def test_names_that_are_known(self):
-        """They are let go where they are many, and written the same then."""
-        writer, known = scripts.Writer(), []
-        one, two = ((0, "k", "k", 'b"', 1, 1), b'i,k,k,"b""",1,1\n'), ((0, "c", "c", "c", 2, 2), b"i,c,c,c,2,2\n")
-        with mock.patch.object(scripts, "MOST_KNOWN", 2):
-            for it, text in (one, one, two, one):
-                self.assertEqual(writer.records_of(Operations([it])), text)
-                known.append(len(writer._quoted))
-        self.assertEqual(known, [2, 2, 3, 2])
+    def setUp(self):
+        self.engine = make_engine(Limits(), None, 1, False)
+        self.addCleanup(self.engine.close)
+        self.writer = scripts.Writer(self.engine.library)
+
+    def records_of(self, rows):
+        return self.writer.records_of(self.engine.flight(Operations(rows), True))
+
+    def test_room(self):
+        """Records that need more room than there is are written too, and the room for the next ones is kept up to a bound."""
+        row, text = (0, "k", "a", "b", 1, 1), b"i,k,a,b,1,1\n"
+        with mock.patch.multiple(scripts, LEAST_ROOM=20, MOST_ROOM=40):
+            self.writer, kept = scripts.Writer(self.engine.library), []
+            for count in (1, 2, 4, 3, 1):
+                self.assertEqual(self.records_of([row] * count), text * count)
+                kept.append(len(self.writer._text))
+        self.assertEqual(kept, [20, 24, 24, 36, 36])
+
+    def test_memory_that_is_refused(self):
+        """Nothing is written in place of records for which there was no memory."""
+        library = mock.Mock()
+        library.batch_records.return_value = Code.MEMORY
+        flight = self.engine.flight(Operations([(0, "k", "a", "b", 1, 1)]), True)
+        self.assertRaises(NoMemory, scripts.Writer(library).records_of, flight)
 
     def test_records_and_back(self):
         """Each operation, alone and with others, and names that want quotes."""
@@ -148,7 +164,7 @@ class Writers(unittest.TestCase):
                            ([remove, expire], b"r,k,a,b\nx,9\n"),
                            ([quoted, add], b'i,k,"a""",b,1,1\na,k,a,c,2,8\n'),
                            ([insert, expire, remove, add], b"i,k,a,b,-5,7\nx,9\nr,k,a,b\na,k,a,c,2,8\n")):
-            self.assertEqual(scripts.Writer().records_of(Operations(rows)), text)
+            self.assertEqual(self.records_of(rows), text)
             self.assertEqual([tuple(it) for it in scripts.operations_of(text).rows], rows)
 
 

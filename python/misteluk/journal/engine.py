@@ -35,7 +35,7 @@ class Journaled(Passing):
     def __init__(self, journal: Journal, state: State, history: History = None) -> None:
         super().__init__(state.engine)
         self._inner, self._journal, self.state = state.engine, journal, state
-        self._guard, self._writer = Guard(), Writer()
+        self._guard, self._writer = Guard(), Writer(state.engine.library)
         # The batch that may be on its way.
         self._flying: Optional[LibraryFlight] = None
         self._compacting = threading.Lock()
@@ -76,7 +76,7 @@ class Journaled(Passing):
     def fly(self, flight: LibraryFlight) -> Commit:
         self._settle()
         batch = flight.batch
-        records = self._writer.records_of(batch)
+        records = self._writer.records_of(flight)
         if batch.post is not None:
             first = self.state.sources.first_answer(batch.post, batch.feeder, records if batch.size else None)
             if first is not None:
@@ -109,7 +109,7 @@ class Journaled(Passing):
         edges, was sent before by its number or key, or has an endless store drop names."""
         self._settle()
         self._journal.must_be_well()
-        records = [self._writer.records_of(it.batch) for it in flights]
+        records = [self._writer.records_of(it) for it in flights]
         if self._were_sent(flights, records) or any(it.batch.expires for it in flights) or not self._are_taken(flights):
             return []
         texts = self._terms.names.since(self._seen)

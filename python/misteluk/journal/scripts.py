@@ -2,36 +2,36 @@
 from __future__ import annotations
 
 from array import array
-from operator import itemgetter
+from ctypes import c_uint64, create_string_buffer, string_at
 from typing import Optional
 
-from ..engine.operations import COMMANDS, REMOVE, Dictionary, Numbered, Operations, Quoted, records_of, row_of
+from ..engine.calling import LibraryFlight, check
+from ..engine.interface import Code, Library
+from ..engine.operations import COMMANDS, Dictionary, Numbered, Operations, row_of
 from ..values import records
 
-# The records of insertions and additions, whose names are quoted already where they must be.
-_FORMS = ("i,%s,%s,%s,%d,%d\n", "a,%s,%s,%s,%d,%d\n")
 _CODES = {it: code for code, it in enumerate(COMMANDS)}
-# How many names are known as fields at most.
-MOST_KNOWN = 1 << 18
+# For how many bytes of records there is room from the first batch on, and how much room is kept for the next one at most.
+LEAST_ROOM, MOST_ROOM = 1 << 16, 1 << 20
 
 
 class Writer:
-    """Writes batches as records. It keeps how names are written, since most come again."""
+    """Writes batches as records, by the library, in whose handles they are."""
 
-    def __init__(self) -> None:
-        self._quoted = Quoted()
+    def __init__(self, library: Library) -> None:
+        self._library, self._length = library, c_uint64()
+        self._text = create_string_buffer(LEAST_ROOM)
 
-    def records_of(self, batch: Operations) -> bytes:
-        """The records of a batch, one line each."""
-        rows = batch.rows
-        codes = set(map(itemgetter(0), rows))
-        if len(codes) != 1 or max(codes) >= REMOVE:
-            return records_of(rows).encode("ascii")
-        if len(self._quoted) > MOST_KNOWN:
-            self._quoted.clear()
-        quoted, form = self._quoted, _FORMS[min(codes)]
-        return "".join([form % (quoted[kind], quoted[source], quoted[target], weight, time)
-                        for _, kind, source, target, weight, time in rows]).encode("ascii")
+    def records_of(self, flight: LibraryFlight) -> bytes:
+        """The records of a batch that is on its way, one line each. Raises `NoMemory`, and nothing was done then."""
+        text = self._text
+        code = self._library.batch_records(flight.owned.raw, text, len(text), self._length)
+        if code == Code.BAD_LENGTH:
+            text = create_string_buffer(self._length.value)
+            code = self._library.batch_records(flight.owned.raw, text, len(text), self._length)
+            self._text = text if len(text) <= MOST_ROOM else self._text
+        check(code)
+        return string_at(text, self._length.value)
 
 
 def operations_of(text: bytes) -> Operations:
