@@ -305,12 +305,22 @@ uint32_t misteluk_version_names(misteluk_version *version, uint32_t first, char 
 /* The same of the kinds' names. NO_HANDLE, NO_KIND, BAD_LENGTH. */
 uint32_t misteluk_version_kind_names(misteluk_version *version, uint32_t first, char *text, size_t text_length, uint64_t *ends,
     size_t ends_length);
+/* Writes the numbers of the vertices from `*from` on whose names have the text in them, rising, as many as there is room for. The
+ * text is any bytes, which stand in the name one after another; the empty one is in each name. `count` tells how many were
+ * written, and `*from` is the first number that wasn't looked at: the number of vertices where all were. One that is past all
+ * vertices stays as it is, and nothing is written. It takes no memory. NO_HANDLE. */
+uint32_t misteluk_version_names_like(misteluk_version *version, const char *text, size_t text_length, uint32_t *from,
+    uint32_t *numbers, size_t numbers_length, uint64_t *count);
 /* Tells one edge by its numbers. NO_HANDLE, NO_KIND, NO_VERTEX, NO_EDGE. */
 uint32_t misteluk_version_edge(misteluk_version *version, uint32_t kind, uint32_t source, uint32_t target, misteluk_edge *out);
 /* For each vertex by number: how many edges of the view go out, how many come in, and the sum of the weights that go out. Each
  * array has as many places as there are vertices. NO_HANDLE, NO_KIND, BAD_LENGTH, MEMORY. */
 uint32_t misteluk_version_degrees(misteluk_version *version, const misteluk_view *view, uint32_t *outgoing,
     size_t outgoing_length, uint32_t *incoming, size_t incoming_length, int64_t *out_weight, size_t out_weight_length);
+/* For each vertex by number: the sum of the weights of the edges of the view that come in. It takes no memory.
+ * NO_HANDLE, NO_KIND, BAD_LENGTH. */
+uint32_t misteluk_version_weights_in(misteluk_version *version, const misteluk_view *view, int64_t *in_weight,
+    size_t in_weight_length);
 /* For each vertex: the least number of edges of the view that lead to it from the source, or NOT_REACHED.
  * NO_HANDLE, NO_KIND, NO_VERTEX, BAD_LENGTH, MEMORY. */
 uint32_t misteluk_version_levels(misteluk_version *version, const misteluk_view *view, uint32_t source, uint32_t *levels,
@@ -343,6 +353,12 @@ uint32_t misteluk_version_cores(misteluk_version *version, const misteluk_view *
  * BAD_LENGTH, with `count` told. BAD_SIZE, NO_HANDLE, NO_KIND, NO_VERTEX, BAD_LENGTH. */
 uint32_t misteluk_version_row(misteluk_version *version, const misteluk_view *view, uint32_t source, misteluk_edge_columns *into,
     uint64_t *count);
+/* Writes the edges of one target that the view lets through, their sources rising and those of one source in the order of its
+ * row, into all columns but the targets, which may have any length. `count` tells how many there are; where the columns have fewer
+ * places nothing is written and the code is BAD_LENGTH, with `count` told. It needs misteluk_version_index, and where that is there
+ * it takes no memory, and time by the edges of the target. BAD_SIZE, NO_HANDLE, NO_KIND, NO_VERTEX, BAD_LENGTH; or MEMORY. */
+uint32_t misteluk_version_in_edges(misteluk_version *version, const misteluk_view *view, uint32_t target,
+    misteluk_edge_columns *into, uint64_t *count);
 /* Writes the edges that the view lets through of the sources from `*source` on, source by source, each one's whole row, as many
  * as the columns hold. `count` tells how many were written, and `*source` is the first source that isn't in: the number of
  * vertices where all are. One that is past all vertices stays as it is, and nothing is written. BAD_SIZE, NO_HANDLE, NO_KIND,

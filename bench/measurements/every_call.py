@@ -37,14 +37,17 @@ class Run(Loaded):
         it, late = Asked(self.checks, self.call, self.version, self.wanted), View(0, (self.edges // 2, self.edges))
         it.sizes(self.call.stat(self.desk).version, self.names, 2)
         it.names(self.names, b"ef")
-        sources = self.wanted.table[1]
-        hub = int(numpy.bincount(sources).argmax())
+        it.names_like(b"77")
+        sources, targets = self.wanted.table[1:3]
+        hub, sink = (int(numpy.bincount(ends).argmax()) for ends in (sources, targets))
         for seen in (View(), View(1), late):
             it.edges(seen)
             it.tables(hub, seen)
         it.row(hub)
         it.row(hub, late)
         it.row(self.count - 1)
+        it.into(sink)
+        it.into(sink, late)
         for place in (0, len(sources) // 2, len(sources) - 1):
             it.edge(place)
         self.checks.refused("no such kind", Code.NO_KIND, it.degrees, View(2))

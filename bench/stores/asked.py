@@ -53,17 +53,30 @@ class Asked:
         self.checks.equal(f"edges of {seen}", in_order(found), self.wanted.seen(*seen).table)
 
     def row(self, source: int, seen: View = View()) -> None:
-        """A source's edges, and that columns of one place less are refused, with the number told."""
-        wanted, count = Wanted(self.wanted.names, self.wanted.row(source)).seen(*seen), c_uint64()
+        self._beside("version_row", 1, source, seen)
+
+    def into(self, target: int, seen: View = View()) -> None:
+        self._beside("version_in_edges", 2, target, seen)
+
+    def _beside(self, name: str, own: int, vertex: int, seen: View) -> None:
+        """A vertex's edges, and that columns of one place less are refused, with the number told."""
+        wanted, count = self.wanted.beside(own, vertex).seen(*seen), c_uint64()
         found = [numpy.zeros(len(wanted), it) for it in COLUMNS]
         short = written_to(words_of(*(it[1:] for it in found)))
-        words = self.version, seen.given(), source
-        self.checks.refused("columns too short", Code.BAD_LENGTH, self.call, "version_row", *words, short, count)
+        words = self.version, seen.given(), vertex
+        self.checks.refused("columns too short", Code.BAD_LENGTH, self.call, name, *words, short, count)
         self.checks.equal("how many places it takes", count.value, len(wanted))
-        found[1][:] = source
-        self.call("version_row", *words, written_to(words_of(*found)), count)
-        self.checks.equal(f"the row of {source} of {seen}", (count.value, *in_order(tuple(found))),
-                          (len(wanted), *wanted.table))
+        found[own][:] = vertex
+        self.call(name, *words, written_to(words_of(*found)), count)
+        self.checks.equal(f"{name} of {vertex} of {seen}", (count.value, *in_order(tuple(found))), (len(wanted), *wanted.table))
+
+    def names_like(self, text: bytes) -> None:
+        """The numbers of the names v0, v1 and so on that have a text, in one call."""
+        wanted = [it for it in range(self.wanted.names) if text in b"v%d" % it]
+        numbers, begin, count = numpy.zeros(len(wanted) + 1, "u4"), c_uint32(), c_uint64()
+        self.call("version_names_like", self.version, text, begin, numbers, count)
+        self.checks.equal(f"names with {text!r}", (numbers[:-1].tolist(), begin.value, count.value),
+                          (wanted, self.wanted.names, len(wanted)))
 
     def edge(self, place: int) -> None:
         kind, source, target, weight, first, recent = (int(it[place]) for it in self.wanted.table)
@@ -80,15 +93,21 @@ class Asked:
         self.call("version_degrees", self.version, seen.given(), *found)
         self.checks.equal(f"degrees of {seen}", found, self.wanted.seen(*seen).degrees())
 
+    def weights_in(self, seen: View = View()) -> None:
+        found = numpy.full(self.wanted.names, 7, "i8")
+        self.call("version_weights_in", self.version, seen.given(), found)
+        self.checks.equal(f"weights that come in of {seen}", found, self.wanted.seen(*seen).weights_in())
+
     def table(self, name: str, wanted: Any, *given: int, seen: View = View()) -> None:
         found = numpy.full(self.wanted.names, 7, "u4")
         self.call(f"version_{name}", self.version, seen.given(), *given, found)
         self.checks.equal(f"{name} of {seen}", found, wanted)
 
     def tables(self, source: int, seen: View = View()) -> None:
-        """Degrees, levels, labels and cores of a view."""
+        """Degrees, weights that come in, levels, labels and cores of a view."""
         graph = self.wanted.seen(*seen)
         self.degrees(seen)
+        self.weights_in(seen)
         self.table("levels", graph.levels(source), source, seen=seen)
         self.table("labels", graph.labels(), seen=seen)
         self.table("cores", graph.cores(), seen=seen)

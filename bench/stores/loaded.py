@@ -84,7 +84,7 @@ class Loaded:
     def absent(self) -> Tuple[int, int]:
         """Ends between which there is no edge of kind f."""
         last = self.count - 1
-        taken = set(Wanted(self.count, self.wanted.row(last)).seen(1).table[2].tolist())
+        taken = set(self.wanted.beside(1, last).seen(1).table[2].tolist())
         return last, next(it for it in range(self.count) if it not in taken)
 
     def apply(self, it: Changed, counts: Tuple[int, ...], in_steps: bool = False) -> None:

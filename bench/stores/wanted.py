@@ -41,14 +41,20 @@ class Wanted:
         kinds, sources, targets = self.table[:3]
         return int(numpy.flatnonzero((kinds == kind) & (sources == source) & (targets == target))[0])
 
-    def row(self, source: int) -> Tuple[Any, ...]:
-        return self.only(self.table[1] == source).table
+    def beside(self, own: int, vertex: int) -> "Wanted":
+        """The edges that have a vertex in its own column, as source or target."""
+        return self.only(self.table[own] == vertex)
 
     def degrees(self) -> Tuple[Any, ...]:
         sources, targets, weights = self.table[1:4]
         sums = numpy.zeros(self.names, "i8")
         numpy.add.at(sums, sources, weights)
         return tuple(numpy.bincount(it, minlength=self.names) for it in (sources, targets)) + (sums,)
+
+    def weights_in(self) -> Any:
+        sums = numpy.zeros(self.names, "i8")
+        numpy.add.at(sums, self.table[2], self.table[3])
+        return sums
 
     def matrix(self) -> Any:
         sparse = importlib.import_module("scipy.sparse")

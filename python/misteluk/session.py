@@ -186,8 +186,7 @@ class Session(Generic[W, T]):
         {'kassel': 0, 'fulda': 105, 'hanau': 308, 'bonn': 180}
         """
         scope, asked = self._scope("weights_in", kind, since, until)
-        found = self._asked(self._held.edges, asked, scope)
-        weights = Values(found.weights_in(self.vertex_count), self._terms.units._weights_told)
+        weights = Values(self._asked(self._held.weights_in, asked, scope), self._terms.units._weights_told)
         return self._answer("weight_in", asked, {"weight_in": weights})
 
     # One edge, and all.

@@ -15,7 +15,6 @@ from support import IN_PROCESS, IS_SERVED, Case, optional
 import misteluk
 from misteluk import Changed, Degree, Edge, Units
 from misteluk.engine.calling import texts_of
-from misteluk.engine.protocol import Arrays
 from misteluk.values import fields
 
 numpy, pandas, igraph, scipy = map(optional, ("numpy", "pandas", "igraph", "scipy"))
@@ -120,37 +119,6 @@ class Shown(Case):
         self.assertNotIn("<a>", told)
 
 
-class ByTarget(unittest.TestCase):
-    def test_the_order_of_targets(self):
-        """By numpy, where it is there, and in a loop: edges in order of their targets, those of one in order of their places.
-        Numbers of targets may have more than 16 bits."""
-        made = random.Random(5)
-        for count, turns in ((1, 20), (2, 20), (40, 20), (70_000, 1)):
-            for _ in range(turns):
-                edges = Arrays.of(made.randrange(120))
-                edges.targets[:] = array("I", (made.randrange(count) for _ in range(edges.size)))
-                wanted = [at for _, at in sorted((it, at) for at, it in enumerate(edges.targets))]
-                sizes = Counter(edges.targets)
-                begins = list(accumulate((sizes[target] for target in range(count)), initial=0))
-                for many in (0, 1_000):
-                    with self.subTest(many=many), mock.patch.object(fields, "MANY", many):
-                        order, ends = edges.by_target(count)
-                        self.assertEqual((list(order), list(ends)), (wanted, begins))
-
-    def test_weights_that_come_in(self):
-        """By numpy, where it is there, and in a loop: sums of weights up to the greatest; those of many no float has."""
-        made = random.Random(6)
-        for count, size in ((1, 300), (3, 300), (40, 300), (1, 9_001), (2, 30_000)):
-            edges, some = Arrays.of(size), range(-9 if size == 300 else (1 << 40) - 9, 1 << 40)
-            edges.targets[:] = array("I", (made.randrange(count) for _ in range(size)))
-            edges.weights[:] = array("q", (made.choice((1 << 40, -(1 << 40) * (size == 300), made.choice(some)))
-                                           for _ in range(size)))
-            wanted = [sum(weight for it, weight in zip(edges.targets, edges.weights) if it == target) for target in range(count)]
-            for many in (0, 1_000):
-                with self.subTest(many=many), mock.patch.object(fields, "MANY", many):
-                    self.assertEqual(list(edges.weights_in(count)), wanted)
-
-
 class NamesInOneText(Case):
     def test_names_are_cut_out_of_their_text(self):
         """By numpy, where it is there, and in a loop: names of any signs that names have, and of each length. Behind the last one
@@ -218,6 +186,28 @@ class EdgesOfAVersion(Case):
                 apart = {it: Counter(session.out_edges(it)) for it in session.edges().names}
                 with store.open() as other:
                     self.assertEqual({it: Counter(other.out_edges(it)) for it in apart}, apart)
+
+    @unittest.skipIf(IS_SERVED, IN_PROCESS)
+    def test_edges_that_come_in_are_asked_for_alone(self):
+        """Nothing reads all edges for them, and a vertex that has more than a row has room for at first has them all."""
+        store = self.store(*(f"insert k v{at} hub {at} 1" for at in range(100)), "insert k hub v1 5 2")
+        with store.open() as session:
+            self.assertEqual([it[1:3] for it in session.in_edges("hub")], [(f"v{at}", "hub") for at in range(100)])
+            self.assertEqual((list(session.in_edges("v2")), session.weights_in()["hub"]), ([], 4_950))
+            self.assertIsNone(session._held.kept.all)
+
+    def test_weights_that_come_in(self):
+        """Sums of the greatest weights, of kinds and windows, beside those of all edges."""
+        made = random.Random(6)
+        rows = [f"insert {made.choice('kl')} v{made.randrange(40)} v{made.randrange(6)} {made.choice((1 << 40, -(1 << 40), 1))} "
+                f"{made.randrange(9)}" for _ in range(300)]
+        session = self.store(*rows).open()
+        for window in ({}, {"kind": "l"}, {"since": 4}, {"kind": "k", "since": 2, "until": 5}):
+            wanted = dict.fromkeys(session.vertices(), 0)
+            for _, _, target, edge in session.edges(**window):
+                wanted[target] += edge.weight
+            self.assertEqual(session.weights_in(**window), wanted)
+            self.assertGreater(max(map(abs, wanted.values())), 1 << 41)
 
     @unittest.skipUnless(numpy, "numpy is not there")
     @unittest.skipIf(IS_SERVED, IN_PROCESS)

@@ -235,18 +235,38 @@ class Version(Owner):
         return list(found)[:count.value]
 
     def row(self, seen: interface.View, source: int) -> List[Row]:
-        """One source's edges, in columns that are as long as they have to be: the length is asked for with none."""
+        return self._beside(self.calls.version_row, seen, source, 1)
+
+    def in_edges(self, seen: interface.View, target: int) -> List[Row]:
+        return self._beside(self.calls.version_in_edges, seen, target, 2)
+
+    def _beside(self, call: Any, seen: interface.View, vertex: int, own: int) -> List[Row]:
+        """One vertex's edges, in columns that are as long as they have to be: the length is asked for with none."""
         none, count = [column("Q", 0)] * 6, c_uint64()
-        code = self.library.version_row(self.handle, seen, source, edge_columns(none, 0), count)
+        code = call(self.handle, seen, vertex, edge_columns(none, 0), count)
         if code != Code.BAD_LENGTH:
             must(code)
         table = [column(it, count.value) for it in "IIIqQQ"]
-        must(self.library.version_row(self.handle, seen, source, edge_columns(table, count.value), count))
-        if any(table[1]):
-            raise AssertionError("a row writes no sources")
-        table[1] = array.array("I", [source]) * count.value
+        must(call(self.handle, seen, vertex, edge_columns(table, count.value), count))
+        if any(table[own]):
+            raise AssertionError("the vertex itself is written nowhere")
+        table[own] = array.array("I", [vertex]) * count.value
         rows: Iterator[Row] = zip(*table)  # type: ignore[assignment]
         return list(itertools.islice(rows, count.value))
+
+    def weights_in(self, seen: interface.View) -> List[int]:
+        out = column("q", self.size.vertices)
+        must(self.library.version_weights_in(self.handle, seen, at(out), self.size.vertices))
+        return list(out)[:self.size.vertices]
+
+    def names_like(self, text: bytes, room: int) -> List[int]:
+        """The numbers of all names that have a text, by as many calls as a column of so many places takes."""
+        found: List[int] = []
+        begin, count, numbers = c_uint32(), c_uint64(), column("I", room)
+        while begin.value < self.size.vertices:
+            must(self.library.version_names_like(self.handle, text, len(text), begin, at(numbers), room, count))
+            found += numbers[:count.value]
+        return found
 
     def edges(self, seen: interface.View, room: int) -> List[Row]:
         """All edges, by as many calls as columns of so many places take."""

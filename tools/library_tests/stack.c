@@ -68,8 +68,14 @@ static void vertex(void) { code = misteluk_version_vertex(&version, "00077", 5, 
 static void kind(void) { code = misteluk_version_kind(&version, "k", 1, &at); }
 static void kind_names(void) { code = misteluk_version_kind_names(&version, 0, text, 1, &number, 1); }
 static void names(void) { code = misteluk_version_names(&version, 0, text, VERTICES * 5, ends, VERTICES); }
+static void names_like(void)
+{
+    at = 0;
+    code = misteluk_version_names_like(&version, "7", 1, &at, kinds, VERTICES, &number);
+}
 static void edge_of(void) { code = misteluk_version_edge(&version, 0, 1, 2, &edge); }
 static void degrees(void) { code = misteluk_version_degrees(&version, &every, kinds, VERTICES, sources, VERTICES, weights, VERTICES); }
+static void weights_in(void) { code = misteluk_version_weights_in(&version, &every, weights, VERTICES); }
 static void levels(void) { code = misteluk_version_levels(&version, &every, 0, kinds, VERTICES); }
 static void labels(void) { code = misteluk_version_labels(&version, &every, kinds, VERTICES); }
 static void cores(void) { code = misteluk_version_cores(&version, &every, kinds, VERTICES); }
@@ -83,6 +89,7 @@ static void path(void) { code = misteluk_version_path(&version, &every, 0, 1, ki
 static misteluk_edge_columns into = {sizeof into, kinds, VERTICES, sources, VERTICES, targets, VERTICES, weights, VERTICES, ends,
     VERTICES, times, VERTICES};
 static void row(void) { code = misteluk_version_row(&version, &every, 0, &into, &number); }
+static void in_edges(void) { code = misteluk_version_in_edges(&version, &every, 1, &into, &number); }
 static void edges(void)
 {
     at = 0;
@@ -181,8 +188,10 @@ int main(void)
     measure("version_kind", kind);
     measure("version_kind_names", kind_names);
     measure("version_names", names);
+    measure("version_names_like", names_like);
     measure("version_edge", edge_of);
     measure("version_degrees", degrees);
+    measure("version_weights_in", weights_in);
     measure("version_levels", levels);
     measure("version_labels", labels);
     measure("version_cores", cores);
@@ -191,6 +200,7 @@ int main(void)
     measure("version_path", path);
     edges();
     measure("version_row", row);
+    measure("version_in_edges", in_edges);
     code = 0; /* (the columns are too short for all edges, and then the call tells how far it came) */
     measure("version_edges", edges);
     measure("desk_release", release);

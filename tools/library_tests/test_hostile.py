@@ -60,15 +60,14 @@ class Hostile(unittest.TestCase):
 
     def test_handles_that_hold_nothing(self) -> None:
         it, desk, batch, none = self.library, interface.Desk(), interface.Batch(), interface.Version()
-        held, counts, number, name = self.held.handle, interface.Counts(), c_uint64(), (b"k", 1)
-        one = column("Q", 9)
+        held, counts, number, name, one = self.held.handle, interface.Counts(), c_uint64(), (b"k", 1), column("Q", 9)
         where, few = at(one), c_uint32()
         table, into = given([*name, where, 1, *name, where, 1, *[where, 1] * 6]), written_to([where, 1] * 6)
         edge = (*name, *name, *name)
         codes = [
             it.batch_length(batch, number), it.batch_insert(batch, *edge, 1, 1), it.batch_add(batch, *edge, 1, 1),
-            it.batch_remove(batch, *edge), it.batch_expire(batch, 1),
-            it.batch_columns(batch, table, 1, number), it.batch_records(batch, where, 1, number),
+            it.batch_remove(batch, *edge), it.batch_expire(batch, 1), it.batch_columns(batch, table, 1, number),
+            it.batch_records(batch, where, 1, number),
             it.desk_apply(desk, self.batch.handle, counts), it.desk_apply(self.desk.handle, batch, counts),
             it.desk_apply(desk, batch, counts), it.desk_begin(desk, self.batch.handle), it.desk_begin(self.desk.handle, batch),
             it.desk_begin(desk, batch), it.desk_finish(desk, counts), it.desk_finish(self.desk.handle, counts),
@@ -85,6 +84,8 @@ class Hostile(unittest.TestCase):
             it.version_labels(none, view(), where, 1), it.version_cores(none, view(), where, 1), it.version_index(none),
             it.version_within(none, view(), 2, where, 1, 1, *[where, 1] * 2, number),
             it.version_row(none, view(), 0, into, number), it.version_edges(none, view(), few, into, number),
+            it.version_in_edges(none, view(), 0, into, number), it.version_weights_in(none, view(), where, 1),
+            it.version_names_like(none, *name, few, where, 1, number),
         ]
         self.assertEqual(codes, [Code.NO_HANDLE] * len(codes))
         self.assertEqual([desk.at, batch.at, none.at, number.value, few.value, *one, *fields(counts)], [None] * 3 + [0] * 18)
@@ -222,6 +223,8 @@ class Hostile(unittest.TestCase):
             self.refuses(Code.NO_KIND, it.version_labels(held, seen, room, 3))
             self.refuses(Code.NO_KIND, it.version_cores(held, seen, room, 3))
             self.refuses(Code.NO_KIND, it.version_row(held, seen, 9, written_to([room, 1] * 6), c_uint64()))
+            self.refuses(Code.NO_KIND, it.version_in_edges(held, seen, 9, written_to([room, 1] * 6), c_uint64()))
+            self.refuses(Code.NO_KIND, it.version_weights_in(held, seen, room, 3))
             self.refuses(Code.NO_KIND, it.version_edges(held, seen, c_uint32(), written_to([room, 1] * 6), c_uint64()))
             self.refuses(Code.NO_KIND, it.version_edge(held, kind, 0, 1, out))
         self.refuses(Code.NO_KIND, it.version_edge(held, ANY_KIND, 0, 1, out))
@@ -230,14 +233,16 @@ class Hostile(unittest.TestCase):
             self.refuses(Code.NO_VERTEX, it.version_edge(held, 0, 0, vertex, out))
             self.refuses(Code.NO_VERTEX, it.version_levels(held, view(), vertex, at(column("I", 3)), 3))
             into = written_to([at(column("Q", 1)), 1] * 6)
-            self.refuses(Code.NO_VERTEX, it.version_row(held, view(), vertex, into, c_uint64()))
+            for call in (it.version_row, it.version_in_edges):
+                self.refuses(Code.NO_VERTEX, call(held, view(), vertex, into, c_uint64()))
         self.refuses(Code.NO_EDGE, it.version_edge(held, 1, 0, 1, out))
 
     def test_windows_that_end_before_they_begin(self) -> None:
         seen = view(None, (7, 6))
         self.assertEqual(self.held.degrees(seen), [(0, 0, 0)] * 3)
         self.assertEqual((self.held.levels(seen, 1), self.held.labels(seen), self.held.cores(seen)), ({1: 0}, [0, 1, 2], [0] * 3))
-        self.assertEqual((self.held.row(seen, 0), self.held.edges(seen, 1)), ([], []))
+        self.assertEqual((self.held.row(seen, 0), self.held.in_edges(seen, 2), self.held.edges(seen, 1)), ([], [], []))
+        self.assertEqual(self.held.weights_in(seen), [0, 0, 0])
 
     def test_tables_that_are_too_short(self) -> None:
         it, held = self.library, self.held.handle
@@ -255,27 +260,32 @@ class Hostile(unittest.TestCase):
             arrays, words = table("I", [short])
             self.refuses(Code.BAD_LENGTH, it.version_levels(held, view(), 0, *words))
             self.assertTrue(arrays[0].is_left_alone())
+        for other in (0, 2, 4):
+            arrays, words = table("q", [other])
+            self.refuses(Code.BAD_LENGTH, it.version_weights_in(held, view(), *words))
+            self.assertEqual(set(arrays[0].bytes), {GUARD})
 
     def test_columns_of_edges_that_are_too_short(self) -> None:
         it, held, count = self.library, self.held.handle, c_uint64()
         for room in (0, 1):
-            arrays, words = table("IIIqQQ", [room] * 6)
-            self.refuses(Code.BAD_LENGTH, it.version_row(held, view(), 0, written_to(words), count))
-            self.assertEqual(count.value, 2)
-            self.assertTrue(all(it.is_left_alone() for it in arrays))
+            for call, vertex in ((it.version_row, 0), (it.version_in_edges, 2)):
+                arrays, words = table("IIIqQQ", [room] * 6)
+                self.refuses(Code.BAD_LENGTH, call(held, view(), vertex, written_to(words), count))
+                self.assertEqual(count.value, 2)
+                self.assertTrue(all(set(it.bytes) == {GUARD} for it in arrays))
             arrays, words = table("IIIqQQ", [room] * 6)
             source = c_uint32()
             self.refuses(Code.BAD_LENGTH, it.version_edges(held, view(), source, written_to(words), count))
             self.assertEqual((count.value, source.value), (2, 0))
             self.assertTrue(all(it.is_left_alone() for it in arrays))
-        for call, before in ((it.version_row, 0), (it.version_edges, c_uint32())):
+        # (a row has no sources, and edges that come in no targets)
+        for call, before, own in ((it.version_row, 0, 1), (it.version_in_edges, 2, 2), (it.version_edges, c_uint32(), None)):
             for place in range(6):
                 for other in (2, 4):
                     counts = [3] * 6
                     counts[place] = other
                     arrays, words = table("IIIqQQ", counts)
-                    # (a row has no sources)
-                    wanted = Code.OK if call is it.version_row and place == 1 else Code.BAD_LENGTH
+                    wanted = Code.OK if place == own else Code.BAD_LENGTH
                     self.refuses(wanted, call(held, view(), before, written_to(words), count))
                     self.assertTrue(all(it.is_left_alone() for it in arrays))
 

@@ -87,6 +87,7 @@ class Structs(unittest.TestCase):
             if size != 104:
                 into = told_with(edge_columns(rows, 1), size)
                 self.assertEqual(it.version_row(interface.Version(), view(9), 9, into, count), Code.BAD_SIZE)
+                self.assertEqual(it.version_in_edges(interface.Version(), view(9), 9, into, count), Code.BAD_SIZE)
                 self.assertEqual(it.version_edges(interface.Version(), view(9), source, into, count), Code.BAD_SIZE)
         self.assertEqual((len(self.batch), done.value, source.value, count.value), (0, 5, 6, 7))
         self.assertEqual([any(it) for it in rows], [False] * 6)
@@ -101,8 +102,9 @@ class Structs(unittest.TestCase):
                  call.misteluk_batch_columns(ctypes.byref(self.batch.handle), it, 1, number),
                  call.misteluk_desk_open_columns(ctypes.byref(self.desk.handle), it, number),
                  call.misteluk_version_row(held, seen, 0, it, number),
+                 call.misteluk_version_in_edges(held, seen, 0, it, number),
                  call.misteluk_version_edges(held, seen, number, it, number)]
-        self.assertEqual(codes, [Code.BAD_SIZE] * 6)
+        self.assertEqual(codes, [Code.BAD_SIZE] * 7)
 
     def test_what_ends_a_handle_ends_it_once(self) -> None:
         desk, batch = Desk(library(), 16), Batch(library())

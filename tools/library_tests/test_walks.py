@@ -101,6 +101,36 @@ class Walks(unittest.TestCase):
         self.assertEqual(sum(self.walked(seed, lambda it: it) for seed in range(120)), 0)
         self.assertGreater(sum(self.walked(seed, lambda it: it[:1]) for seed in range(20)), 100)
 
+    def led_to(self, seed: int, change: "Callable[[List[Any]], List[Any]]") -> int:
+        """How many vertices' edges that come in differ from what all edges show, and the sums of weights, each after a change."""
+        draw, version = self.graph(seed)
+        kind, window = draw.choice([None, 0]), draw.choice([EVER, (3, 12), (9, 2)])
+        rows = [it for it in version.edges(view(), 64) if kind in (None, it[0]) and window[0] <= it[5] <= window[1]]
+        if draw.random() < 0.3:
+            version.index()
+        into = [[it for it in rows if it[2] == target] for target in range(version.size.vertices)]
+        differ = sum(change(version.in_edges(view(kind, window), target)) != into[target] for target in range(len(into)))
+        return differ + (change(version.weights_in(view(kind, window))) != [sum(it[3] for it in each) for each in into])
+
+    def test_edges_that_come_in_are_those_of_all_edges(self) -> None:
+        self.assertEqual(sum(self.led_to(seed, lambda it: it) for seed in range(300)), 0)
+        for change in (lambda it: it[1:], lambda it: it[::-1]):
+            self.assertGreater(sum(self.led_to(seed, change) for seed in range(40)), 40)
+
+    def test_weights_that_come_in(self) -> None:
+        """By hand: two kinds, a loop, a sum that is below 0, one of the greatest weights, and a vertex that nothing enters."""
+        most, desk, batch = 1 << 40, Desk(library(), 64), Batch(library())
+        for edge in ((b"k", b"a", b"b", most, 1), (b"m", b"a", b"b", most, 2), (b"k", b"b", b"b", most, 3),
+                     (b"k", b"b", b"c", -5, 4), (b"m", b"c", b"c", 2, 5)):
+            batch.insert(*edge)
+        desk.apply(batch)
+        version = desk.hold()
+        found = [version.weights_in(it) for it in (view(), view(1), view(None, (3, 4)), view(0, (5, 9)), view(None, (4, 3)))]
+        self.assertEqual(found, [[0, 3 * most, -3], [0, most, 2], [0, most, -5], [0, 0, 0], [0, 0, 0]])
+        self.assertEqual([it[:2] for it in version.in_edges(view(), 1)], [(0, 0), (1, 0), (0, 1)])
+        for it in (version, batch, desk):
+            it.free()
+
     def test_a_planted_fault_is_found(self) -> None:
         for change in (lambda it: it[1:], lambda it: it[::-1], lambda it: [(a, b + 1) for a, b in it]):
             self.assertGreater(sum(self.asked(seed, change) for seed in range(40)), 10)

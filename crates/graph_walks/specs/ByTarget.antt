@@ -14,6 +14,9 @@ pub record AreByTarget (v : VersionView) (edges : List Edge) : Type 0 where
   pub same : (target : ℕ) → edges_into target edges ≡ edges_into target (edges_of_version v)
   pub once : AreEachOnce (edges_of_version v) (content v)
 
--- the sources of those edges that a filter lets through
+-- those edges that a filter lets through, and their sources
+abbrev pub edges_shown : Filter → List Edge → List Edge
+edges_shown f edges = filter (λ e. in_view f (entry_of e)) edges
+
 abbrev pub sources_shown : Filter → List Edge → List ℕ
-sources_shown f edges = map (λ e. e.source.0) (filter (λ e. in_view f (entry_of e)) edges)
+sources_shown f edges = map (λ e. e.source.0) (edges_shown f edges)

@@ -119,8 +119,8 @@ fn takes_kind(filter: &Filter, kind: KindId) -> bool
     }
 }
 
-/// Whether a filter lets an edge through.
-pub(crate) fn passes(filter: &Filter, edge: &Edge) -> bool
+/// Whether a filter lets an edge through: by its kind, and by its recent time, both ends of the window included.
+pub fn passes(filter: &Filter, edge: &Edge) -> bool
     ensures { result ≡ view.in_view filter.now (entry_of edge.now) }
 {
     takes_kind(filter, edge.kind) && filter.lo <= edge.recent && edge.recent <= filter.hi

@@ -10,5 +10,5 @@ mod incoming;
 mod paths;
 
 pub use backward::{Against, EitherWay};
-pub use incoming::Incoming;
+pub use incoming::{Incoming, passes};
 pub use paths::path;

@@ -14,6 +14,7 @@ mod held;
 mod inserting;
 mod opening;
 mod phases;
+mod searching;
 #[cfg(test)]
 mod tests;
 mod texts;

@@ -15,14 +15,19 @@ use crate::opening::{
     DeskLimits, misteluk_desk_limits, misteluk_desk_new, misteluk_desk_new_within,
 };
 use crate::phases::{misteluk_desk_begin, misteluk_desk_cancel, misteluk_desk_finish};
+use crate::searching::misteluk_version_names_like;
 use crate::texts::{misteluk_code_text, misteluk_interface, misteluk_library_version};
 use crate::versions::{
     EdgeColumns, misteluk_version_clone, misteluk_version_cores, misteluk_version_degrees,
     misteluk_version_edge, misteluk_version_edges, misteluk_version_free, misteluk_version_kind,
     misteluk_version_kind_names, misteluk_version_labels, misteluk_version_levels,
     misteluk_version_names, misteluk_version_row, misteluk_version_size, misteluk_version_vertex,
+    misteluk_version_weights_in,
 };
-use crate::walking::{misteluk_version_index, misteluk_version_path, misteluk_version_within};
+use crate::walking::{
+    misteluk_version_in_edges, misteluk_version_index, misteluk_version_path,
+    misteluk_version_within,
+};
 use desk_counts::Counts;
 use std::alloc::Global;
 use store_handles::Handle;
@@ -197,6 +202,9 @@ fn look_up(alloc: Global, version: &mut Handle, other: &mut Handle) -> u32 {
     let mut number = 0_u32;
     let mut text = [0_u8; 2];
     let mut ends = [0_u64; 2];
+    let mut from = 0_u32;
+    let mut numbers = [0_u32; 2];
+    let mut count = 0_u64;
     let codes = [
         misteluk_version_clone(alloc, version, other),
         misteluk_version_size(alloc, version, &mut size),
@@ -205,6 +213,7 @@ fn look_up(alloc: Global, version: &mut Handle, other: &mut Handle) -> u32 {
         misteluk_version_names(alloc, version, 0, &mut text, &mut ends),
         misteluk_version_kind_names(alloc, version, 0, &mut text, &mut ends[..1]),
         misteluk_version_edge(alloc, version, 0, 0, 1, &mut marks),
+        misteluk_version_names_like(alloc, version, b"b", &mut from, &mut numbers, &mut count),
     ];
     sum(&codes)
 }
@@ -226,6 +235,7 @@ fn ask(alloc: Global, version: &mut Handle) -> u32 {
         misteluk_version_levels(alloc, version, &EVERY, 0, &mut outgoing),
         misteluk_version_labels(alloc, version, &EVERY, &mut outgoing),
         misteluk_version_cores(alloc, version, &EVERY, &mut outgoing),
+        misteluk_version_weights_in(alloc, version, &EVERY, &mut weights),
         reach(alloc, version),
     ];
     sum(&codes)
@@ -274,7 +284,7 @@ const EMPTY: Columns = Columns {
     recents: [0; 2],
 };
 
-/// The codes of one source's edges, and of all.
+/// The codes of one source's edges, of all, and of those that lead to one vertex.
 fn read_edges(alloc: Global, version: &mut Handle) -> u32 {
     let mut room = EMPTY;
     let mut source = 0_u32;
@@ -291,6 +301,7 @@ fn read_edges(alloc: Global, version: &mut Handle) -> u32 {
     let codes = [
         misteluk_version_row(alloc, version, &EVERY, 0, &mut into, &mut count),
         misteluk_version_edges(alloc, version, &EVERY, &mut source, &mut into, &mut count),
+        misteluk_version_in_edges(alloc, version, &EVERY, 1, &mut into, &mut count),
     ];
     sum(&codes)
 }

@@ -3,7 +3,7 @@
 ghost use Rattle.std.specs.Prelude.{◌≡◌, ◌==◌, ◌⊎◌, Some, None, length, MatchBool, MatchOption, false};
 ghost use Rattle.graph_version.specs.Versions.{content};
 ghost use Rattle.version_columns.specs.Lookups.{size_of, marks_of_edge};
-ghost use Rattle.version_columns.specs.Tables.{WritesCores, WritesLabels, WritesLevels, WritesDegrees, degree_columns};
+ghost use Rattle.version_columns.specs.Tables.{WritesCores, WritesLabels, WritesLevels, WritesDegrees, WritesWeightsIn, degree_columns};
 ghost use Rattle.misteluk_c.specs.Edges.{edge_table, AreTheColumns, TellsRow, TellsEdges};
 ghost use Rattle.misteluk_c.specs.Held.{held_version_of, Asks, MakesHeld, TellsCode, TellsNumber, TellsNames, TellsEdge};
 
@@ -243,6 +243,30 @@ pub extern "C" fn misteluk_version_degrees(
     code
 }
 
+/// Writes the weight that comes into each vertex.
+#[unsafe(no_mangle)]
+pub extern "C" fn misteluk_version_weights_in(
+    alloc: Global,
+    version: &mut Handle,
+    view: &View,
+    weights: &mut [i64],
+) -> u32
+    ensures same { version.new.held ≡ version.old.held }
+    ensures told { Asks (held_version_of version.old.held) result
+        (λ v. TellsCode result (WritesWeightsIn (content v) view.now weights.old weights.new)) }
+    ensures none { held_version_of version.old.held ≡ None → weights.new ≡ weights.old }
+{
+    let Some(held) = version.take(alloc) else {
+        return NO_HANDLE;
+    };
+    let code = match version_in(&held) {
+        Some(version) => columns_code(columns::write_weights_in(version, view, weights)),
+        None => NO_HANDLE,
+    };
+    version.put(held);
+    code
+}
+
 /// Writes the level of each vertex.
 #[unsafe(no_mangle)]
 pub extern "C" fn misteluk_version_levels(
@@ -328,7 +352,7 @@ pub struct EdgeColumns<'a> {
 }
 
 /// How large that struct is.
-const EDGES_SIZE: usize = 104;
+pub(crate) const EDGES_SIZE: usize = 104;
 
 /// Writes the edges of one source.
 #[unsafe(no_mangle)]

@@ -1,16 +1,19 @@
-//! Walks over a version's edges.
+//! Walks over a version's edges, and the edges that lead to one vertex.
 
-ghost use Rattle.std.specs.Prelude.{◌≡◌, ◌⊎◌, Some, None, MatchOption};
+ghost use Rattle.std.specs.Prelude.{◌≡◌, ◌==◌, ◌⊎◌, Some, None, MatchBool, MatchOption, false};
 ghost use Rattle.version_columns.specs.Nearby.{near_columns};
+ghost use Rattle.misteluk_c.specs.Edges.{edge_table, AreTheColumns, TellsInto, TellsInEdges};
 ghost use Rattle.misteluk_c.specs.Held.{held_version_of, Asks};
 ghost use Rattle.misteluk_c.specs.Walks.{TellsPath, TellsWithin};
 ghost use Rattle.misteluk_c.specs.Walks as walks;
 
-use crate::codes::{BAD_NUMBER, NO_HANDLE, OK, columns_code};
+use crate::codes::{BAD_NUMBER, BAD_SIZE, NO_HANDLE, OK, columns_code};
 use crate::held::{indexed, version_in};
+use crate::versions::{EDGES_SIZE, EdgeColumns};
+use graph_walks::Incoming;
 use std::alloc::Global;
 use store_handles::{Handle, Held};
-use version_columns::{View, Ways, write_path, write_within};
+use version_columns::{View, Ways, write_in_edges, write_path, write_within};
 
 /// Which way a step of a walk goes along an edge.
 #[derive(Clone, Copy)]
@@ -194,4 +197,78 @@ fn path_to(
         )),
         Err(code) => code,
     }
+}
+
+/// Writes the edges that lead to one vertex.
+#[unsafe(no_mangle)]
+pub extern "C" fn misteluk_version_in_edges(
+    alloc: Global,
+    version: &mut Handle,
+    view: &View,
+    target: u32,
+    into: &mut EdgeColumns<'_>,
+    count: &mut u64,
+) -> u32
+    ensures same { held_version_of version.new.held ≡ held_version_of version.old.held }
+    ensures struct_same { AreTheColumns into.old into.new }
+    ensures told { MatchBool (into.old.size == 104) (Asks (held_version_of version.old.held) result
+        (λ v. TellsInEdges v view.now target into.old into.new count.new result)) (result ≡ 21) }
+    ensures targets { into.new.targets.now ≡ into.old.targets.now }
+    ensures none { (into.old.size == 104 ≡ false) ⊎ (held_version_of version.old.held ≡ None)
+        → (edge_table into.new ≡ edge_table into.old) × (count.new ≡ count.old) }
+{
+    if into.size != EDGES_SIZE {
+        return BAD_SIZE;
+    }
+    let Some(mut held) = version.take(alloc) else {
+        return NO_HANDLE;
+    };
+    let code = in_edges_to(alloc, &mut held, view, target, into, count);
+    version.put(held);
+    code
+}
+
+fn in_edges_to(
+    alloc: Global,
+    held: &mut Held,
+    view: &View,
+    target: u32,
+    into: &mut EdgeColumns<'_>,
+    count: &mut u64,
+) -> u32
+    ensures same { held_version_of (Some held.new) ≡ held_version_of (Some held.old) }
+    ensures struct_same { AreTheColumns into.old into.new }
+    ensures told { Asks (held_version_of (Some held.old)) result
+        (λ v. TellsInEdges v view.now target into.old into.new count.new result) }
+    ensures targets { into.new.targets.now ≡ into.old.targets.now }
+    ensures none { held_version_of (Some held.old) ≡ None → (edge_table into.new ≡ edge_table into.old) × (count.new ≡ count.old) }
+{
+    match indexed(alloc, held) {
+        Ok(incoming) => edges_into(&incoming, view, target, into, count),
+        Err(code) => code,
+    }
+}
+
+fn edges_into(
+    incoming: &Incoming,
+    view: &View,
+    target: u32,
+    into: &mut EdgeColumns<'_>,
+    count: &mut u64,
+) -> u32
+    ensures struct_same { AreTheColumns into.old into.new }
+    ensures told { TellsInto incoming.now view.now target into.old into.new count.new result }
+    ensures targets { into.new.targets.now ≡ into.old.targets.now }
+{
+    columns_code(write_in_edges(
+        incoming,
+        view,
+        target,
+        into.kinds,
+        into.sources,
+        into.weights,
+        into.firsts,
+        into.recents,
+        count,
+    ))
 }

@@ -1,2 +1,4 @@
 pub mod Columns
 pub mod NameTexts
+pub mod SearchSteps
+pub mod WeightSums

@@ -1,7 +1,7 @@
 -- Vertices that walks lead to, with their levels, in the caller's columns.
-use Rattle.std.specs.Prelude.{◌≡◌, ◌≢◌, ◌⊎◌, ◌==◌, ◌<◌, ◌≤◌, ◌-◌, ◌^◌, ℕ, List, length, map, nat_lt, Bool, true, false, if◌then◌else◌}
+use Rattle.std.specs.Prelude.{◌≡◌, ◌≢◌, ◌⊎◌, ◌==◌, ◌<◌, ◌≤◌, ℕ, List, length, map, nat_lt, Bool, true, false, if◌then◌else◌}
 use Rattle.std.specs.{Prelude.{Option, Some, None, Result, Ok, Err}, List.list_all}
-use Rattle.graph_types.specs.{Graph.Graph, Analyses.{Joins, LeadsTo}, declared.ids.{Filter.Filter, VertexId.VertexId}}
+use Rattle.graph_types.specs.{Analyses.{Joins, LeadsTo}, declared.ids.{Filter.Filter, VertexId.VertexId}}
 use Rattle.graph_version.specs.Versions.{VersionView, content}
 use Rattle.graph_levels.specs.{Near.AreNear, Reached.vertices_of}
 use Rattle.version_columns.specs.declared.views.{View.View, ColumnError.ColumnError}

@@ -1,13 +1,14 @@
 -- Edges in columns: rows of a version, as far as a filter lets them through.
 use Rattle.std.specs.Prelude.{◌≡◌, ◌≤◌, ◌<◌, ◌==◌, ◌&&◌, ◌⊎◌, ℕ, ℤ, ◌+◌, ◌-◌, suc, zero, List, [], ◌∷◌, ◌++◌, length, map, flat_map, replicate}
 use Rattle.std.specs.Prelude.{slice_set, nat_lt, nat_le, true, Bool, Option, Some, None, Result, Ok, Err, OnOk, OnErr, false}
-use Rattle.graph_types.specs.{declared.ids.Filter.Filter}
+use Rattle.graph_types.specs.{Graph.stamp_of, declared.ids.{Edge.Edge, Filter.Filter}}
 use Rattle.edge_block.specs.{Slots.BlockView, Lending.{LentEdge, lent_of}}
 use Rattle.graph_version.specs.Rows.{row_of}
-use Rattle.graph_version.specs.{Versions.{VersionView, content}, Shown.shown}
+use Rattle.graph_version.specs.{InEdges.edges_into, Versions.{VersionView, content}, Shown.shown}
+use Rattle.graph_walks.specs.ByTarget.{edges_of_version, edges_shown}
 use Rattle.version_columns.specs.declared.views.{View.View, ColumnError.ColumnError}
 use Rattle.version_columns.specs.declared.views.ColumnError.TheVariants.{NoKind, BadLength}
-use Rattle.version_columns.specs.Views.{filter_of, first_view_refusal}
+use Rattle.version_columns.specs.Views.{filter_of, first_view_refusal, column_outcome}
 
 -- the edges of a block that a filter lets through, in slot order, and those of blocks
 abbrev pub block_edges : Filter → BlockView → List LentEdge
@@ -20,7 +21,20 @@ lent_edges_of f blocks = flat_map (block_edges f) blocks
 abbrev pub row_edges : Filter → VersionView → ℕ → List LentEdge
 row_edges f v source = lent_edges_of f (row_of v.rows source)
 
--- the columns that edges are written to
+-- an edge the other way, as a block of its target would lend it: its source stands in the place of the target
+abbrev pub turned_edge : Edge → LentEdge
+turned_edge e = record { kind = e.kind.0; target = e.source.0; stamp = stamp_of e }
+
+-- those edges that a filter lets through, each the other way
+abbrev pub turned_edges : Filter → List Edge → List LentEdge
+turned_edges f edges = map turned_edge (edges_shown f edges)
+
+-- the edges that lead to a target, each the other way: sources rising, and those of one source in the order of its row
+abbrev pub in_edges : Filter → VersionView → ℕ → List LentEdge
+in_edges f v target = turned_edges f (edges_into target (edges_of_version v))
+
+-- the columns that edges are written to: those of a source with their targets, and those that lead to a target with their
+-- sources in place of these
 pub record Columns : Type 0 where
   pub kinds : List ℕ
   pub targets : List ℕ
@@ -69,29 +83,25 @@ abbrev pub sources_from : Filter → VersionView → ℕ → ℕ → List ℕ
 sources_from f v source zero = []
 sources_from f v source (suc n) = replicate (length (row_edges f v source)) source ++ sources_from f v (source + 1) n
 
--- one row
+-- the edges of one vertex, which are `row_edges` of a source, or `in_edges` of a target
 
--- whether so many places are enough for the edges of a source
-abbrev pub fits_row : Option Filter → VersionView → ℕ → ℕ → Bool
-fits_row None v source room = true
-fits_row (Some f) v source room = nat_le (length (row_edges f v source)) room
+-- whether so many places are enough for them
+abbrev pub fits_row : (Filter → VersionView → ℕ → List LentEdge) → Option Filter → VersionView → ℕ → ℕ → Bool
+fits_row edges None v vertex room = true
+fits_row edges (Some f) v vertex room = nat_le (length (edges f v vertex)) room
 
--- a result that is this refusal, if there is one
-abbrev pub column_outcome : Option ColumnError → Result (Unit {0}) ColumnError
-column_outcome None = Ok tt
-column_outcome (Some error) = Err error
-
--- the row is written, or refused by the first refusal that holds and then nothing is
-pub record WritesRow (v : VersionView) (view : View) (source : ℕ) (old new : Columns) (result : Result (Unit {0}) ColumnError) : Type 0 where
-  pub answer : result ≡ column_outcome (first_view_refusal (filter_of (content v) view) (nat_lt source (length (content v).names))
-      (are_long (length old.kinds) old && fits_row (filter_of (content v) view) v source (length old.kinds)))
-  pub written : OnOk result ((f : Filter) × (filter_of (content v) view ≡ Some f) × (new ≡ with_edges 0 (row_edges f v source) old))
+-- they are written, or refused by the first refusal that holds and then nothing is
+pub record WritesRow (edges : Filter → VersionView → ℕ → List LentEdge) (v : VersionView) (view : View) (vertex : ℕ)
+    (old new : Columns) (result : Result (Unit {0}) ColumnError) : Type 0 where
+  pub answer : result ≡ column_outcome (first_view_refusal (filter_of (content v) view) (nat_lt vertex (length (content v).names))
+      (are_long (length old.kinds) old && fits_row edges (filter_of (content v) view) v vertex (length old.kinds)))
+  pub written : OnOk result ((f : Filter) × (filter_of (content v) view ≡ Some f) × (new ≡ with_edges 0 (edges f v vertex) old))
   pub same : OnErr result (new ≡ old)
 
--- how many edges a source has, where the kind and the vertex are there
-abbrev pub IsRowCount : VersionView → View → ℕ → ℕ → Type 0
-IsRowCount v view source count = (f : Filter) → filter_of (content v) view ≡ Some f → source < length (content v).names
-    → count ≡ length (row_edges f v source)
+-- how many they are, where the kind and the vertex are there
+abbrev pub IsRowCount : (Filter → VersionView → ℕ → List LentEdge) → VersionView → View → ℕ → ℕ → Type 0
+IsRowCount edges v view vertex count = (f : Filter) → filter_of (content v) view ≡ Some f → vertex < length (content v).names
+    → count ≡ length (edges f v vertex)
 
 -- several rows
 

@@ -1,9 +1,10 @@
 -- Tables of the analyses in the caller's columns.
-use Rattle.std.specs.Prelude.{◌≡◌, ◌==◌, ◌&&◌, ℕ, ℤ, List, length, map, nat_lt, true, Option, Some, unwrap_or, Result}
-use Rattle.graph_types.specs.{Graph.Graph, Answer.degree_table, Analyses.{AreLevels, AreLabels, AreCoreNumbers}}
+use Rattle.std.specs.Prelude.{◌≡◌, ◌==◌, ◌&&◌, ◌+ℤ◌, ℕ, ℤ, pos, List, length, map, filter, fold, nat_lt, true, Option, Some, unwrap_or}
+use Rattle.std.specs.{Prelude.{Result, OnOk, OnErr}, List.range_with_len, FinMap.entries}
+use Rattle.graph_types.specs.{Graph.Graph, View.enters, Answer.degree_table, Analyses.{AreLevels, AreLabels, AreCoreNumbers}}
 use Rattle.graph_types.specs.declared.ids.Filter.{Filter}
 use Rattle.version_columns.specs.declared.views.{View.View, ColumnError.ColumnError}
-use Rattle.version_columns.specs.Views.{filter_of, first_view_refusal, no_number, IsWritten}
+use Rattle.version_columns.specs.Views.{filter_of, first_view_refusal, column_outcome, no_number, IsWritten}
 
 -- core numbers, and labels
 abbrev pub WritesCores : Graph → View → List ℕ → List ℕ → Result (Unit {0}) ColumnError → Type 0
@@ -42,3 +43,17 @@ WritesDegrees g view old new result =
     IsWritten (first_view_refusal (filter_of g view) true ((length old.outgoing == length g.names)
     && (length old.incoming == length g.names) && (length old.weights == length g.names))) old new
     ((f : Filter) × (filter_of g view ≡ Some f) × AreDegrees f g new) result
+
+-- the sum of the weights of the edges of the view that enter v
+abbrev pub in_weight : Filter → Graph → ℕ → ℤ
+in_weight f g v = fold ◌+ℤ◌ (pos 0) (map (λ e. e.1.weight) (filter (enters f v) (entries g.edges)))
+
+-- those of the vertices in number order
+abbrev pub in_weights : Filter → Graph → List ℤ
+in_weights f g = map (in_weight f g) (range_with_len 0 (length g.names))
+
+-- they are written, or refused by the first refusal that holds and then nothing is
+pub record WritesWeightsIn (g : Graph) (view : View) (old new : List ℤ) (result : Result (Unit {0}) ColumnError) : Type 0 where
+  pub answer : result ≡ column_outcome (first_view_refusal (filter_of g view) true (length old == length g.names))
+  pub written : OnOk result ((f : Filter) × (filter_of g view ≡ Some f) × (new ≡ in_weights f g))
+  pub same : OnErr result (new ≡ old)

@@ -24,6 +24,11 @@ first_view_refusal (Some f) false length_ok = Some NoVertex
 first_view_refusal (Some f) true false = Some BadLength
 first_view_refusal (Some f) true true = None
 
+-- a result that is this refusal, if there is one
+abbrev pub column_outcome : Option ColumnError → Result (Unit {0}) ColumnError
+column_outcome None = Ok tt
+column_outcome (Some error) = Err error
+
 -- the result is the refusal, if there is one; else what was to be written is written, or memory was refused. A refusal leaves the
 -- columns as they were
 abbrev pub IsWritten : {X : Type 0} → Option ColumnError → X → X → Type 0 → Result (Unit {0}) ColumnError → Type 0

@@ -2,7 +2,7 @@
 
 ghost use Rattle.std.specs.Prelude.{◌≡◌, ◌+◌, ◌≤◌, ◌^◌, length};
 ghost use Rattle.graph_version.specs.Sharing.{block_values};
-ghost use Rattle.version_columns.specs.Rows.{block_edges, lent_edges_of, columns, with_edges, AreLong, WritesRow, IsRowCount};
+ghost use Rattle.version_columns.specs.Rows.{block_edges, lent_edges_of, columns, with_edges, AreLong, WritesRow, IsRowCount, row_edges};
 ghost use Rattle.version_columns.specs.Rows as rows;
 
 use crate::views::{ColumnError, View, filter_of};
@@ -114,9 +114,9 @@ pub fn write_row(
     recents: &mut [u64],
     count: &mut u64,
 ) -> Result<(), ColumnError>
-    ensures row { WritesRow version.now view.now source (columns kinds.old targets.old weights.old firsts.old recents.old)
+    ensures row { WritesRow row_edges version.now view.now source (columns kinds.old targets.old weights.old firsts.old recents.old)
         (columns kinds.new targets.new weights.new firsts.new recents.new) result }
-    ensures count { IsRowCount version.now view.now source count.new }
+    ensures count { IsRowCount row_edges version.now view.now source count.new }
 {
     let Some(filter) = filter_of(version, view) else {
         return Err(ColumnError::NoKind);

@@ -6,7 +6,6 @@ from array import array
 from bisect import bisect_left
 from ctypes import c_uint32, c_uint64, sizeof
 from itertools import chain
-from operator import itemgetter
 from typing import Any, Dict, List, NamedTuple, Optional, Protocol, Sequence, Tuple, Union, cast
 
 from . import interface
@@ -76,7 +75,7 @@ class Kept:
     """What a version keeps from call to call until it is closed: the handles and rows that nobody uses now, and what was asked of
     all. A call takes it once: where the version is closed meanwhile, it ends with what it took, which goes with it."""
 
-    __slots__ = ("idle", "is_indexed", "rows", "names", "all", "begins", "by_target", "answers")
+    __slots__ = ("idle", "is_indexed", "rows", "names", "all", "begins", "answers")
 
     def __init__(self) -> None:
         self.idle: List[Owned] = []
@@ -85,7 +84,6 @@ class Kept:
         self.names: Optional[List[str]] = None
         self.all: Optional[Arrays] = None
         self.begins: "Optional[array[int]]" = None
-        self.by_target: "Optional[Tuple[Sequence[int], array[int]]]" = None
         self.answers = Answers()
 
 
@@ -248,6 +246,9 @@ class LibraryVersion(Walked):
         out, into, weights = self._table("degrees", "IIq", scope)
         return out, into, weights
 
+    def weights_in(self, scope: Scope) -> "array[int]":
+        return self._table("weights_in", "q", scope)[0]
+
     def labels(self, scope: Scope) -> "array[int]":
         return self._table("labels", "I", scope)[0]
 
@@ -315,7 +316,7 @@ class LibraryVersion(Walked):
         else:
             begin, end = begins[source], begins[source + 1]
         if scope is not WHOLE:
-            return self._apart(all_.at(self._counted(all_, scope, view, range(begin, end))))
+            return self._apart(all_.at(all_.places(None if scope.kind is None else view.kind, scope, range(begin, end))))
         kinds, sources, targets, weights, firsts, recents = all_
         return self._apart(Arrays(kinds[begin:end], sources[begin:end], targets[begin:end], weights[begin:end],
                                   firsts[begin:end], recents[begin:end]))
@@ -324,7 +325,7 @@ class LibraryVersion(Walked):
         """The edges that go out of a vertex as its row has them, where they are so many at most, else `None`: what takes longer
         the caller may have done by another thread."""
         view, source, rows = self._view(scope), self._vertex(name), self.kept.rows
-        row = self._row(rows, view, source, most)
+        row = self._row(self._library.version_row, rows, view, source, most)
         if row is None:
             return None
         count = row.count.value
@@ -335,40 +336,31 @@ class LibraryVersion(Walked):
         return found
 
     def into(self, scope: Scope, name: str) -> Arrays:
-        kept = self.kept
-        view, target, all_ = self._view(scope), self._vertex(name), self.edges(WHOLE)
-        found = kept.by_target
-        if found is None:
-            found = kept.by_target = all_.by_target(self.count)
-        order, ends = found
-        places = order[ends[target]:ends[target + 1]]
-        count = len(places)
-        if scope is not WHOLE or self._kind_count > 1 or count < 2:
-            return self._apart(all_.at(self._counted(all_, scope, view, places)))
-        kinds, sources, targets, weights, firsts, recents = all_
-        pick, first = itemgetter(*places), places[0]
-        return Arrays(kinds[:count], array("I", pick(sources)), targets[first:first + 1] * count, array("q", pick(weights)),
-                      array("Q", pick(firsts)), array("Q", pick(recents)))
+        view, target, rows = self._view(scope), self._vertex(name), self.kept.rows
+        self._index()
+        row = self._row(self._library.version_in_edges, rows, view, target, None)
+        assert row is not None  # (there is no bound)
+        count = row.count.value
+        kinds, sources, _, weights, firsts, recents = row.columns
+        found = Arrays(kinds[:count], sources[:count], array("I", (target,)) * count, weights[:count], firsts[:count],
+                       recents[:count])
+        rows.append(row)
+        return self._apart(found)
 
-    @staticmethod
-    def _counted(all_: Arrays, scope: Scope, view: interface.View, places: Sequence[int]) -> Sequence[int]:
-        """The places, of some, whose edges count."""
-        return places if scope is WHOLE else all_.places(None if scope.kind is None else view.kind, scope, places)
-
-    def _row(self, rows: List[Row], view: interface.View, source: int, most: Optional[int]) -> Optional[Row]:
-        """The edges that go out of a vertex, which are asked for, as they stand, in one of the rows; `None` where they are more
-        than so many."""
+    def _row(self, call: Any, rows: List[Row], view: interface.View, vertex: int, most: Optional[int]) -> Optional[Row]:
+        """The edges that go out of a vertex, or come into it, as a call asks for them, as they stand, in one of the rows; `None`
+        where they are more than so many."""
         try:
             row = rows.pop()
         except IndexError:
             row = Row(A_ROW)
-        code: int = self._ask(self._library.version_row, view, source, row.into, row.count)
+        code: int = self._ask(call, view, vertex, row.into, row.count)
         if code == Code.BAD_LENGTH:
             if most is not None and row.count.value > most:
                 rows.append(row)
                 return None
             row = Row(row.count.value)
-            code = self._ask(self._library.version_row, view, source, row.into, row.count)
+            code = self._ask(call, view, vertex, row.into, row.count)
         if code:
             raise refusal_of(code)
         return row

@@ -217,8 +217,11 @@ FUNCTIONS: Dict[str, Tuple[Any, List[Any]]] = {
     "version_kind": (c_uint32, [POINTER(Version), c_void_p, c_size_t, POINTER(c_uint32)]),
     "version_names": (c_uint32, [POINTER(Version), c_uint32, c_void_p, c_size_t, c_void_p, c_size_t]),
     "version_kind_names": (c_uint32, [POINTER(Version), c_uint32, c_void_p, c_size_t, c_void_p, c_size_t]),
+    "version_names_like": (c_uint32, [POINTER(Version), c_void_p, c_size_t, POINTER(c_uint32), c_void_p, c_size_t,
+        POINTER(c_uint64)]),
     "version_edge": (c_uint32, [POINTER(Version), c_uint32, c_uint32, c_uint32, POINTER(Edge)]),
     "version_degrees": (c_uint32, [POINTER(Version), POINTER(View), c_void_p, c_size_t, c_void_p, c_size_t, c_void_p, c_size_t]),
+    "version_weights_in": (c_uint32, [POINTER(Version), POINTER(View), c_void_p, c_size_t]),
     "version_levels": (c_uint32, [POINTER(Version), POINTER(View), c_uint32, c_void_p, c_size_t]),
     "version_index": (c_uint32, [POINTER(Version)]),
     "version_within": (c_uint32, [POINTER(Version), POINTER(View), c_uint32, c_void_p, c_size_t, c_uint32, c_void_p, c_size_t,
@@ -227,6 +230,7 @@ FUNCTIONS: Dict[str, Tuple[Any, List[Any]]] = {
     "version_labels": (c_uint32, [POINTER(Version), POINTER(View), c_void_p, c_size_t]),
     "version_cores": (c_uint32, [POINTER(Version), POINTER(View), c_void_p, c_size_t]),
     "version_row": (c_uint32, [POINTER(Version), POINTER(View), c_uint32, POINTER(EdgeColumns), POINTER(c_uint64)]),
+    "version_in_edges": (c_uint32, [POINTER(Version), POINTER(View), c_uint32, POINTER(EdgeColumns), POINTER(c_uint64)]),
     "version_edges": (c_uint32, [POINTER(Version), POINTER(View), POINTER(c_uint32), POINTER(EdgeColumns), POINTER(c_uint64)]),
 }
 
@@ -270,8 +274,10 @@ class Library:
     version_kind: Callable[[Version, Memory, int, c_uint32], int]
     version_names: Callable[[Version, int, Memory, int, Memory, int], int]
     version_kind_names: Callable[[Version, int, Memory, int, Memory, int], int]
+    version_names_like: Callable[[Version, Memory, int, c_uint32, Memory, int, c_uint64], int]
     version_edge: Callable[[Version, int, int, int, Edge], int]
     version_degrees: Callable[[Version, View, Memory, int, Memory, int, Memory, int], int]
+    version_weights_in: Callable[[Version, View, Memory, int], int]
     version_levels: Callable[[Version, View, int, Memory, int], int]
     version_index: Callable[[Version], int]
     version_within: Callable[[Version, View, int, Memory, int, int, Memory, int, Memory, int, c_uint64], int]
@@ -279,6 +285,7 @@ class Library:
     version_labels: Callable[[Version, View, Memory, int], int]
     version_cores: Callable[[Version, View, Memory, int], int]
     version_row: Callable[[Version, View, int, EdgeColumns, c_uint64], int]
+    version_in_edges: Callable[[Version, View, int, EdgeColumns, c_uint64], int]
     version_edges: Callable[[Version, View, c_uint32, EdgeColumns, c_uint64], int]
 
     def __init__(self, path: str) -> None:

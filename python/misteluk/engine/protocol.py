@@ -9,8 +9,6 @@ from __future__ import annotations
 
 import sys
 from array import array
-from collections import Counter
-from itertools import accumulate
 from operator import itemgetter
 from typing import Any, List, Mapping, NamedTuple, Optional, Protocol, Sequence, Tuple
 
@@ -38,9 +36,8 @@ class Scope(NamedTuple):
 
 
 WHOLE = Scope()
-# How many bits the lower half of a weight has; up to which size a float has each whole number; and from how many edges on numpy
-# is quicker than loops, once it is loaded.
-HALF, EXACT, A_FEW = 20, 1 << 53, 500
+# From how many edges on numpy is quicker than loops, once it is loaded.
+A_FEW = 500
 # What the engine in this process is called.
 LIBRARY = "library"
 
@@ -92,52 +89,15 @@ class Arrays(NamedTuple):
         order = sorted(range(self.size), key=ends.__getitem__)
         return self.at(sorted(order, key=self.kinds.__getitem__))
 
-    def weights_in(self, count: int) -> "array[int]":
-        """For each of so many vertices the weight that comes in."""
-        numpy = numpy_for(self.size, A_FEW)
-        if numpy is not None:
-            # (A sum of floats is exact where it stays within 2^53, as those of halves of weights do, where others may not.)
-            targets, weights = numpy.asarray(self.targets), numpy.asarray(self.weights)
-            if max(int(weights.max()), -int(weights.min())) * self.size <= EXACT:
-                return array("q", numpy.bincount(targets, weights, count).astype("int64").tobytes())
-            halves = weights >> HALF, weights & (1 << HALF) - 1
-            high, low = (numpy.bincount(targets, it, count).astype("int64") for it in halves)
-            return array("q", ((high << HALF) + low).tobytes())
-        found = array("q", bytes(8 * count))
-        for target, weight in zip(self.targets, self.weights):
-            found[target] += weight
-        return found
-
-    def by_target(self, count: int) -> "Tuple[Sequence[int], array[int]]":
-        """The places of edges in order of their targets, of which there are so many, and where those of each begin. (Without
-        numpy in a loop, which lets other threads have their turn: a sort of all of them would keep these waiting.)"""
-        numpy = numpy_for(self.size, A_FEW)
-        if numpy is not None:
-            targets = numpy.asarray(self.targets)
-            order = numpy.argsort(targets.astype("uint16"), kind="stable")  # (by so many bits numpy sorts in one go)
-            if count > 1 << 16:
-                order = order[numpy.argsort((targets >> 16).astype("uint16")[order], kind="stable")]
-            return array("I", order.astype("uint32").tobytes()), _begins(numpy, targets, count)
-        counts = Counter(self.targets)
-        ends = array("I", accumulate(map(counts.__getitem__, range(count)), initial=0))
-        order, free = array("I", bytes(4 * self.size)), list(ends)
-        for at, it in enumerate(self.targets):
-            order[free[it]] = at
-            free[it] += 1
-        return order, ends
-
     def by_source(self, count: int) -> "Optional[array[int]]":
-        """Where the edges of each source begin, which stand source by source, of so many; `None` where numpy isn't loaded, for
-        which this alone would be no reason: a search takes a microsecond."""
+        """Where the edges of each source begin, which stand source by source, of so many, and behind them their end; `None` where
+        numpy isn't loaded, for which this alone would be no reason: a search takes a microsecond."""
         numpy = numpy_for(self.size, A_FEW) if "numpy" in sys.modules else None
-        return None if numpy is None else _begins(numpy, numpy.asarray(self.sources), count)
-
-
-def _begins(numpy: Any, numbers: Any, count: int) -> "array[int]":
-    """Where the places of each number begin, of so many, in order of the numbers; and behind them their end."""
-    begins = numpy.zeros(count + 1, dtype="uint32")
-    numpy.cumsum(numpy.bincount(numbers, minlength=count), out=begins[1:])
-    return array("I", begins.tobytes())
+        if numpy is None:
+            return None
+        begins = numpy.zeros(count + 1, dtype="uint32")
+        numpy.cumsum(numpy.bincount(numpy.asarray(self.sources), minlength=count), out=begins[1:])
+        return array("I", begins.tobytes())
 
 
 class Denied(Exception):
@@ -175,6 +135,9 @@ class Held(Protocol):
 
     def degrees(self, scope: Scope) -> "Tuple[array[int], array[int], array[int]]":
         """For each vertex how many edges go out, how many come in, and the weight that goes out."""
+
+    def weights_in(self, scope: Scope) -> "array[int]":
+        """For each vertex the weight that comes in."""
 
     def labels(self, scope: Scope) -> "array[int]":
         """For each vertex the least number of those that walks join it to, direction ignored."""

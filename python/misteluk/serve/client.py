@@ -85,6 +85,9 @@ class ServedVersion:
         out, into, weights = self._columns("degrees", scope)
         return out, into, weights
 
+    def weights_in(self, scope: Scope) -> "array[int]":
+        return self._columns("weights_in", scope)[0]
+
     def labels(self, scope: Scope) -> "array[int]":
         return self._columns("labels", scope)[0]
 

@@ -107,8 +107,8 @@ def is_of_all(given: Mapping[str, Any]) -> bool:
 
 
 # The calls that give columns, and whether they are of a name.
-CALLS = {"degrees": False, "labels": False, "cores": False, "edges": False, "levels": True, "within": True, "path": True,
-         "out_of": True, "into": True}
+CALLS = {"degrees": False, "weights_in": False, "labels": False, "cores": False, "edges": False, "levels": True, "within": True,
+         "path": True, "out_of": True, "into": True}
 
 
 def _scope(given: Mapping[str, Any]) -> Scope:
