@@ -203,6 +203,10 @@ uint32_t misteluk_batch_new(misteluk_batch *out);
 void misteluk_batch_free(misteluk_batch *batch);
 /* Tells how many operations a batch has. NO_HANDLE. */
 uint32_t misteluk_batch_length(misteluk_batch *batch, uint64_t *out);
+/* Writes a batch's operations as the program reads them in a script, one record a line, with no 0 at the end. `length` becomes how
+ * many bytes they are, also where the text has no room for them: it is as it was then. They take as much memory, until the call
+ * returns. NO_HANDLE; BAD_LENGTH, or MEMORY, after which `length` is as it was, too. */
+uint32_t misteluk_batch_records(misteluk_batch *batch, char *text, size_t text_length, uint64_t *length);
 /* Appends an insertion: the edge is added, or the weight of the one that is there is replaced.
  * NO_HANDLE, BAD_NAME, BAD_WEIGHT, BAD_TIME, BATCH_FULL in this order, or MEMORY. */
 uint32_t misteluk_batch_insert(misteluk_batch *batch, const char *kind, size_t kind_length, const char *source,
@@ -223,10 +227,6 @@ uint32_t misteluk_batch_expire(misteluk_batch *batch, uint64_t time);
  * columns differ; of an operation BAD_NUMBER, also of a sort that there is none of, BAD_NAME, BAD_WEIGHT, BAD_TIME in this order;
  * or MEMORY. After MEMORY and the codes before BAD_NUMBER `*done` is as it was, so that the same call can be made again. */
 uint32_t misteluk_batch_columns(misteluk_batch *batch, const misteluk_columns *columns, uint32_t limit, uint64_t *done);
-/* Writes a batch's operations as the program reads them in a script, one record a line, with no 0 at the end. `length` becomes how
- * many bytes they are, also where the text has no room for them: it is as it was then. They take as much memory, until the call
- * returns. NO_HANDLE; BAD_LENGTH, or MEMORY, after which `length` is as it was, too. */
-uint32_t misteluk_batch_records(misteluk_batch *batch, char *text, size_t text_length, uint64_t *length);
 
 /* The desk */
 

@@ -264,7 +264,9 @@ class Version(Owner):
         found: List[int] = []
         begin, count, numbers = c_uint32(), c_uint64(), column("I", room)
         while begin.value < self.size.vertices:
+            before = begin.value
             must(self.library.version_names_like(self.handle, text, len(text), begin, at(numbers), room, count))
+            assert begin.value > before
             found += numbers[:count.value]
         return found
 

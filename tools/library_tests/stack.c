@@ -25,7 +25,7 @@ static uint32_t sources[VERTICES], targets[VERTICES], kinds[VERTICES], at, code;
 static uint32_t first_kind[VERTICES];
 static uint8_t insertions[VERTICES];
 static int64_t weights[VERTICES];
-static char text[VERTICES * 6];
+static char text[VERTICES * 6], records[VERTICES * 24];
 
 static void none(void) { }
 static void desk_new(void) { code = misteluk_desk_new(1, 65536, &desk); }
@@ -37,7 +37,7 @@ static void batch_insert(void) { code = misteluk_batch_insert(&batch, "k", 1, "0
 static void batch_add(void) { code = misteluk_batch_add(&filled, "k", 1, "00000", 5, "00001", 5, 1, 1); }
 static void batch_remove(void) { code = misteluk_batch_remove(&filled, "k", 1, "00000", 5, "00001", 5); }
 static void batch_length(void) { code = misteluk_batch_length(&filled, &number); }
-static void batch_records(void) { code = misteluk_batch_records(&filled, text, sizeof text, &number); }
+static void batch_records(void) { code = misteluk_batch_records(&filled, records, sizeof records, &number); }
 static const misteluk_columns columns = {sizeof columns, "k", 1, &kind_end, 1, text, VERTICES * 5, ends, VERTICES, insertions,
     VERTICES, first_kind, VERTICES, sources, VERTICES, targets, VERTICES, weights, VERTICES, times, VERTICES};
 

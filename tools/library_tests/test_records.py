@@ -85,7 +85,9 @@ class Records(unittest.TestCase):
         elif word == b"r":
             self.batch.remove(*fields)
         else:
-            (self.batch.insert if word == b"i" else self.batch.add)(*fields[:3], int(fields[3]), int(fields[4]))
+            kind, source, target, weight, time = fields
+            put = self.batch.insert if word == b"i" else self.batch.add
+            put(kind, source, target, int(weight), int(time))
 
 
 if __name__ == "__main__":

@@ -188,12 +188,12 @@ FUNCTIONS: Dict[str, Tuple[Any, List[Any]]] = {
     "batch_new": (c_uint32, [POINTER(Batch)]),
     "batch_free": (None, [POINTER(Batch)]),
     "batch_length": (c_uint32, [POINTER(Batch), POINTER(c_uint64)]),
+    "batch_records": (c_uint32, [POINTER(Batch), c_void_p, c_size_t, POINTER(c_uint64)]),
     "batch_insert": (c_uint32, [POINTER(Batch), c_void_p, c_size_t, c_void_p, c_size_t, c_void_p, c_size_t, c_int64, c_uint64]),
     "batch_add": (c_uint32, [POINTER(Batch), c_void_p, c_size_t, c_void_p, c_size_t, c_void_p, c_size_t, c_int64, c_uint64]),
     "batch_remove": (c_uint32, [POINTER(Batch), c_void_p, c_size_t, c_void_p, c_size_t, c_void_p, c_size_t]),
     "batch_expire": (c_uint32, [POINTER(Batch), c_uint64]),
     "batch_columns": (c_uint32, [POINTER(Batch), POINTER(Columns), c_uint32, POINTER(c_uint64)]),
-    "batch_records": (c_uint32, [POINTER(Batch), c_void_p, c_size_t, POINTER(c_uint64)]),
     "desk_new": (c_uint32, [c_uint64, c_uint32, POINTER(Desk)]),
     "desk_new_within": (c_uint32, [c_uint64, POINTER(Limits), c_uint32, POINTER(Desk)]),
     "desk_limits": (c_uint32, [POINTER(Desk), POINTER(Limits)]),
@@ -245,12 +245,12 @@ class Library:
     batch_new: Callable[[Batch], int]
     batch_free: Callable[[Batch], None]
     batch_length: Callable[[Batch, c_uint64], int]
+    batch_records: Callable[[Batch, Memory, int, c_uint64], int]
     batch_insert: Callable[[Batch, Memory, int, Memory, int, Memory, int, int, int], int]
     batch_add: Callable[[Batch, Memory, int, Memory, int, Memory, int, int, int], int]
     batch_remove: Callable[[Batch, Memory, int, Memory, int, Memory, int], int]
     batch_expire: Callable[[Batch, int], int]
     batch_columns: Callable[[Batch, Columns, int, c_uint64], int]
-    batch_records: Callable[[Batch, Memory, int, c_uint64], int]
     desk_new: Callable[[int, int, Desk], int]
     desk_new_within: Callable[[int, Limits, int, Desk], int]
     desk_limits: Callable[[Desk, Limits], int]
