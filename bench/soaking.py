@@ -57,12 +57,12 @@ def tell(sort: str, met: Counter[str]) -> None:
 
 def holding(session: Any, chance: random.Random, met: Counter[str]) -> None:
     """Asks twice a second for half a minute to two, while later versions come: what it holds stays as it is."""
-    first = session.version, session.edge_count, session.degrees().dict()
+    first = session.version, session.edge_count, session.degrees().to_dict()
     for count in range(chance.randrange(60, 240)):
         asked(session, chance, list(first[2]))
         met["answers"] += 1
         if count % 10 == 9:
-            is_same = (session.version, session.edge_count, session.degrees().dict()) == first
+            is_same = (session.version, session.edge_count, session.degrees().to_dict()) == first
             met["the version as it was" if is_same else "another version than the one held"] += 1
             tell(HOLDS, met)
         time.sleep(0.5)

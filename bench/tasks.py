@@ -45,11 +45,11 @@ def transfers(count: int, folder: pathlib.Path) -> None:
         step("load", lambda: store.load(frame, by="add", columns=Columns("source", "target", weight="amount", time="time")))
         session, wanted = store.open(), sums(frame)
         for _ in range(3):
-            found = step("edges().frame()", lambda: session.edges().frame())
+            found = step("edges().to_pandas()", lambda: session.edges().to_pandas())
             must_be("the edges", {(it.source, it.target): (it.weight, it.first, it.recent)
                                   for it in found.itertuples()} == wanted)
         late = {ends for ends, (_, _, recent) in wanted.items() if recent >= count // 200 * DAY}
-        part = step("a window", lambda: session.edges(since=count // 200 * DAY).frame())
+        part = step("a window", lambda: session.edges(since=count // 200 * DAY).to_pandas())
         must_be("the edges of a window", set(zip(part.source, part.target)) == late)
         out: Dict[str, int] = {}
         for (source, _), (weight, _, _) in wanted.items():
@@ -101,9 +101,9 @@ def dependencies(count: int, folder: pathlib.Path) -> None:
     with Store(blocks=65_536) as store:
         step("load", lambda: store.load(frame, by="add", columns=Columns("source", "target", weight="amount", time="time")))
         session, wanted = store.open(), sums(frame)
-        found = step("edges().frame()", lambda: session.edges().frame())
+        found = step("edges().to_pandas()", lambda: session.edges().to_pandas())
         must_be("the edges", {(it.source, it.target): (it.weight, it.first, it.recent) for it in found.itertuples()} == wanted)
-        graph = step("to_networkx", session.to_networkx)
+        graph = step("to_networkx", lambda: session.edges().to_networkx())
         must_be("networkx's edges", {(source, target): weight for source, target, weight in graph.edges(data="weight")}
                 == {ends: it[0] for ends, it in wanted.items()})
         source = rows[0][0]

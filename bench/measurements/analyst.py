@@ -5,7 +5,7 @@ has its processor time.
 
 1. transfers: 200,000 rows of 20,000 accounts, summed; exports, windows of days, a save and a restore.
 2. logistics: a network of 400 places, 100 neighborhoods of it in two held versions.
-3. dependencies: 500,000 rows of 50,000 names, `edges().frame()`, `to_networkx`, a save.
+3. dependencies: 500,000 rows of 50,000 names, `edges().to_pandas()`, `to_networkx`, a save.
 """
 from __future__ import annotations
 

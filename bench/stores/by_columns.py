@@ -170,8 +170,8 @@ def exports(shape: str, scale: int, edges: int, room: pathlib.Path) -> Dict[str,
     before = store.open()
     load(store, {**part, "weight": part["weight"] + 1})
     after = store.open()
-    works = {"diff": lambda: before.diff(after), "diff().frame()": lambda: before.diff(after).frame(),
-             "edges().frame()": lambda: after.edges().frame(), "to_csv": lambda: after.to_csv(room / "edges.csv"),
+    works = {"diff": lambda: before.diff(after), "diff().to_pandas()": lambda: before.diff(after).to_pandas(),
+             "edges().to_pandas()": lambda: after.edges().to_pandas(), "to_csv": lambda: after.to_csv(room / "edges.csv"),
              "save": lambda: after.save(room / "saved.csv"), "restore": lambda: Client.restore(room / "saved.csv").close()}
     found = {name: timed(work)[1].processor for name, work in works.items()}
 
@@ -188,8 +188,8 @@ def exports_of_pandas(shape: str, scale: int, edges: int, room: pathlib.Path) ->
     before = package.DataFrame(with_names(shape, scale, edges)).drop_duplicates(["source", "target"], keep="last")
     after = before.copy()
     after.iloc[:edges // 10, 2] += 1
-    works = {"diff().frame()": lambda: before.merge(after, "outer", ["source", "target"], indicator=True),
-             "edges().frame()": lambda: after.copy(), "to_csv": lambda: after.to_csv(room / "edges.csv", index=False),
+    works = {"diff().to_pandas()": lambda: before.merge(after, "outer", ["source", "target"], indicator=True),
+             "edges().to_pandas()": lambda: after.copy(), "to_csv": lambda: after.to_csv(room / "edges.csv", index=False),
              "save": lambda: after.to_pickle(room / "saved.pickle"),
              "restore": lambda: package.read_pickle(room / "saved.pickle")}
     return {name: timed(work)[1].processor for name, work in works.items()}

@@ -91,7 +91,7 @@ class Client:
 
     def frame(self) -> Any:
         with self.store.open() as session:
-            return session.edges().frame()
+            return session.edges().to_pandas()
 
     def gathered(self) -> int:
         for it in range(SINGLE):
@@ -113,12 +113,12 @@ class Client:
         if what in ("weights", "weights_in"):
             return dict(zip(names, found))
         if what == "components":
-            return parts(found.dict())
+            return parts(found.to_dict())
         if what in ("out_of", "into"):
             return [sorted(it[2 if what == "out_of" else 1] for it in edges) for edges in found]
         if what == "arrays":
             return sorted((source, target, edge.weight) for _, source, target, edge in found)
-        return found.dict()
+        return found.to_dict()
 
     def close(self) -> None:
         self.session.close()

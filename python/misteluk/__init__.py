@@ -7,8 +7,22 @@
 ...     print(store.open().levels("hamburg"))
 {'hamburg': 0, 'kassel': 1}
 
-Python's standard library is enough; numpy, pandas, networkx and tqdm are used if they are installed. The other errors are in
-`misteluk.errors`. Examples of calls go on from that of `Session`.
+Where a task begins (`help(misteluk.Store.load)` has more, and so on):
+
+- Fill a store: `Store.load` takes a file, a pandas DataFrame, a networkx graph or rows, of which `Columns` says the columns;
+  `Store.follow` takes a file that grows. `insert`, `add`, `remove` and `expire` are applied by `Store.commit`.
+- Amounts with cents, and dates: `Store(units=Units(weight_scale=100, times="iso"))`. Without units both are whole numbers.
+- Ask: `Store.open` returns a `Session`, with `degrees`, `weights_in`, `out_edges`, `in_edges`, `neighborhood`, `path`,
+  `components` and others. Each answer has `to_pandas`; tables and edges have `top`; `Edges` have `to_networkx` too.
+- Compare two versions: `Session.diff`. Draw them: `view`, which makes a page.
+- Keep: `Store("graph.db")` writes each commit to a file, and `Store.at` reads an earlier version of it. `Session.save` writes one
+  version, and `Store.restore` reads it.
+- Serve: `python -m misteluk serve --help` in a shell. Other processes ask by `connect` or `AsyncSession`, and `ServedStore.stat`
+  waits for a later version.
+- Errors: those below, and the others in `misteluk.errors`.
+
+Python's standard library is enough; numpy, pandas, networkx and tqdm are used if they are installed. Examples of calls go on from
+that of `Session`.
 """
 import importlib
 from typing import TYPE_CHECKING, Any, Dict, List
@@ -61,4 +75,4 @@ def __getattr__(name: str) -> Any:
 
 
 def __dir__() -> List[str]:
-    return sorted({*globals(), *__all__})
+    return sorted({*(it for it in globals() if it.startswith("__")), *__all__, "errors"})

@@ -63,7 +63,7 @@ class Refused(StoreError):
 
     word = ""
     advice = ""
-    applied: "Optional[Commit]" = None
+    applied: Optional[Commit] = None
 
     def __init_subclass__(cls) -> None:
         cls.word = cls.__name__
@@ -128,10 +128,10 @@ class BadTime(Refused):
 
     >>> store.insert("road", "kassel", "bonn", 230, time="2024-05-01")
     Traceback (most recent call last):
-    misteluk.errors.BadTime: BadTime: time '2024-05-01': ... Dates are taken by a store with times='iso' (--times iso)
+    misteluk.errors.BadTime: BadTime: time '2024-05-01': ... Dates are taken by a store with Units(times='iso') (--times iso)
     """
 
-    advice = "Dates are taken by a store with times='iso' (--times iso)"
+    advice = "Dates are taken by a store with Units(times='iso') (--times iso)"
 
 
 class BadSlot(Refused):
@@ -308,7 +308,7 @@ class NoSeat(StoreError):
     >>> with Store(seats=1) as single:
     ...     first, second = single.open(), single.open()
     Traceback (most recent call last):
-    misteluk.errors.NoSeat: all 1 seats hold sessions: close one, or make the store with more seats (16 at most)
+    misteluk.errors.NoSeat: all 1 seats hold sessions: close one, or make the store with more (seats=, 16 at most)
     """
 
 
@@ -360,7 +360,7 @@ class FeedFault(StoreError):
 class SaveFault(StoreError):
     """A file is no saved version, or isn't as it was written. Nothing of it is restored.
 
-    >>> count = session.to_csv("roads.csv")
+    >>> count = session.edges().to_csv("roads.csv")
     >>> Store.restore("roads.csv")
     Traceback (most recent call last):
     misteluk.errors.SaveFault: roads.csv is no saved version: ...

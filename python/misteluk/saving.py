@@ -84,7 +84,7 @@ class Found(NamedTuple):
         return int(self.facts[fact])
 
 
-def save(session: "Session[Any, Any]", path: Path, progress: Optional[bool] = None) -> Saved:
+def save(session: Session[Any, Any], path: Path) -> Saved:
     """Writes the version that the session holds as one file. See `Session.save`."""
     ending = files.ending_of(path)
     files.place_of(path)
@@ -110,7 +110,7 @@ def _script(head: str, operations: Numbered, size: int) -> bytes:
     return f"{_OPENING}i,{KIND},form:{FORM},{hashlib.sha256(told).hexdigest()},0,0\n".encode("ascii") + told
 
 
-def _head(session: "Session[Any, Any]", content: Content, needed: int) -> str:
+def _head(session: Session[Any, Any], content: Content, needed: int) -> str:
     """What is told of the file behind its digest. It goes in batches, of which each is let go before the next one, so that few
     names and blocks are enough."""
     store, units = session.store, session.store.units
@@ -175,8 +175,8 @@ def _told(head: str) -> Tuple[Dict[str, str], Dict[str, str]]:
     return facts, {it: unquote(text) for it, text in pieces.items() if it.startswith(MARK)}
 
 
-def restore(path: Path, make: "Callable[[int, Units[Any, Any]], Store[Any, Any]]", blocks: Optional[int],
-            progress: Optional[bool]) -> "Store[Any, Any]":
+def restore(path: Path, make: Callable[[int, Units[Any, Any]], Store[Any, Any]], blocks: Optional[int],
+            progress: Optional[bool]) -> Store[Any, Any]:
     """A store of a saved file. `make` makes it, with so many blocks and in the file's units. See `Store.restore`."""
     found = read(path)
     grows = blocks is None and "grows" in found.facts
@@ -207,7 +207,7 @@ def restore(path: Path, make: "Callable[[int, Units[Any, Any]], Store[Any, Any]]
         raise
 
 
-def _fill(store: "Store[Any, Any]", found: Found, size: int, told: Progress) -> None:
+def _fill(store: Store[Any, Any], found: Found, size: int, told: Progress) -> None:
     """Applies a file's operations, in batches of this size, to an empty store, and takes its names and kinds."""
     ledger = store._ledger
     ledger.terms.names.put(found.texts)

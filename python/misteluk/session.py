@@ -20,11 +20,6 @@ from .values.texts import Path, text_of
 from .values.units import Moment
 
 if TYPE_CHECKING:
-    import igraph
-    import networkx
-    import pandas
-    import scipy.sparse
-
     from .saving import Saved
     from .store import Store
 
@@ -48,6 +43,7 @@ class Session(Generic[W, T]):
 
     The examples of its methods, and of the classes of answers, go on from here. `version` is the version's number, and
     `vertex_count` how many vertices it has. Close a session, or use it in a `with`: an open one keeps blocks from being freed.
+    Answers are tables by name (`Answer`) or `Edges`; all have `to_pandas` and `top`.
 
     A request takes a `kind`, or all kinds without it, and a window of times from `since` to `until`, both included. It covers the
     edges whose recent time, that of the last operation on them, is in the window. Times are in the store's units; a date without
@@ -55,7 +51,7 @@ class Session(Generic[W, T]):
     a name that the version doesn't have, `BadWindow` if `since` is after `until`, and `SessionClosed` after `close`. Several
     threads may use a session."""
 
-    def __init__(self, store: "Store[W, T]", held: Held) -> None:
+    def __init__(self, store: Store[W, T], held: Held) -> None:
         self.store, self._held = store, held
         self._slot, self.version, self.vertex_count = held.slot, held.number, held.count
         self._names: Optional[Tuple[str, ...]] = None
@@ -84,9 +80,13 @@ class Session(Generic[W, T]):
         try:
             return call(*given)
         except Denied as fault:
+            kind = told.named.get("kind")
+            if fault.word == NoKind.word and isinstance(kind, str) and self.has_vertex(kind):
+                advice = f"{kind!r} is a vertex: out_edges, in_edges and neighbors take one"
+                raise refusal(fault.word, str(told), advice=advice) from None
             raise self._terms.denied(fault, str(told)) from None
 
-    def _scope(self, call: str, kind: Optional[str], since: Moment, until: Moment, *names: str) -> "Tuple[Scope, Called]":
+    def _scope(self, call: str, kind: Optional[str], since: Moment, until: Moment, *names: str) -> Tuple[Scope, Called]:
         """Which edges count, and the call as it was made. Raises where a name is none, the kind none, or the window no window."""
         self._must_be_open()
         if kind is not None:
@@ -114,7 +114,7 @@ class Session(Generic[W, T]):
         return self._names
 
     def _answer(self, value: str, asked: Called, columns: Dict[str, Values],
-                names: Optional[Sequence[str]] = None) -> "Answer[Any]":
+                names: Optional[Sequence[str]] = None) -> Answer[Any]:
         names = self._all_names() if names is None else names
         found: Answer[Any] = Answer._of(names, columns, self.version, str(asked), value)
         return found
@@ -125,7 +125,7 @@ class Session(Generic[W, T]):
             self._kinds = tuple(self._terms.names.all_to_user(self._held.kinds()))
         return self._kinds
 
-    def _edges(self, found: Arrays) -> "Edges[W, T]":
+    def _edges(self, found: Arrays) -> Edges[W, T]:
         return Edges(self._kinds or self._all_kinds(), self._names or self._all_names(), self._terms.units, found)
 
     # Tables.
@@ -140,7 +140,7 @@ class Session(Generic[W, T]):
         name = self._terms.asked(source)
         return self._near(asked, *self._asked(self._held.levels, asked, scope, name))
 
-    def _near(self, asked: Called, reached: Sequence[int], levels: "array[int]") -> Answer[int]:
+    def _near(self, asked: Called, reached: Sequence[int], levels: array[int]) -> Answer[int]:
         """The vertices that are reached, by number, with their levels."""
         names = self._all_names()
         names = names if len(reached) == len(names) else tuple(map(names.__getitem__, reached))
@@ -216,10 +216,10 @@ class Session(Generic[W, T]):
         return kind, source, target
 
     @overload
-    def get_edges(self, ends: Iterable[Ends], *, missing: R) -> "List[Union[Edge[W, T], R, None]]": ...
+    def get_edges(self, ends: Iterable[Ends], *, missing: R) -> List[Union[Edge[W, T], R, None]]: ...
 
     @overload
-    def get_edges(self, ends: Iterable[Ends]) -> "List[Optional[Edge[W, T]]]": ...
+    def get_edges(self, ends: Iterable[Ends]) -> List[Optional[Edge[W, T]]]: ...
 
     def get_edges(self, ends: Iterable[Ends], *, missing: Any = RAISE) -> Any:
         """Returns a list with an `Edge` for each kind, source and target in `ends`, or `None` as `edge` does. If `missing` is
@@ -234,7 +234,7 @@ class Session(Generic[W, T]):
                 raise TypeError(f"an edge is asked for by its kind, source and target, and not by {it!r}")
         return self._some_edges(asked, missing)
 
-    def _some_edges(self, asked: "List[Ends]", missing: Any) -> "List[Any]":
+    def _some_edges(self, asked: List[Ends], missing: Any) -> List[Any]:
         self._must_be_open()
         found: List[Any] = []
         for ends, it in zip(asked, self._asked(self._held.found, Called("edges"), list(map(self._ends, asked)))):
@@ -244,8 +244,8 @@ class Session(Generic[W, T]):
             found.append((missing if it else None) if told else self._terms.units._edge_to_user(*it))  # type: ignore[misc]
         return found
 
-    def edges(self, kind: Optional[str] = None, since: Moment = 0, until: Moment = LAST) -> "Edges[W, T]":
-        """Returns all edges as `Edges`: arrays with names, and a sequence of (kind, source, target, `Edge`).
+    def edges(self, kind: Optional[str] = None, since: Moment = 0, until: Moment = LAST) -> Edges[W, T]:
+        """Returns all edges as `Edges`: a sequence of (kind, source, target, `Edge`), with `to_pandas`, `to_networkx` and others.
 
         >>> for kind, source, target, edge in session.edges(since=4):
         ...     print(kind, source, target, edge.weight)
@@ -254,44 +254,7 @@ class Session(Generic[W, T]):
         scope, asked = self._scope("edges", kind, since, until)
         return self._edges(self._asked(self._held.edges, asked, scope))
 
-    def to_networkx(self, kind: Optional[str] = None, since: Moment = 0, until: Moment = LAST) -> "networkx.MultiDiGraph":
-        """Returns all edges as a networkx graph, with every name of the version as a node, in order. An edge's key is its kind;
-        it has the attributes `kind`, `weight`, `first` and `recent`.
-
-        >>> session.to_networkx().edges["kassel", "hanau", "rail"]["weight"]  # needs networkx
-        210
-        """
-        return self.edges(kind, since, until).to_networkx(version=self.version)
-
-    def to_igraph(self, kind: Optional[str] = None, since: Moment = 0, until: Moment = LAST) -> "igraph.Graph":
-        """Returns all edges as a directed igraph graph, whose vertices are numbered as in the version and have `name`. Edges have
-        the attributes `kind`, `weight`, `first` and `recent`.
-
-        >>> session.to_igraph().es["kind"].count("road")  # needs igraph
-        3
-        """
-        return self.edges(kind, since, until).to_igraph(version=self.version)
-
-    def to_scipy(self, kind: Optional[str] = None, since: Moment = 0, until: Moment = LAST) -> "scipy.sparse.csr_matrix":
-        """Returns the weights as a sparse matrix: row and column are the numbers of source and target, by `edges().names`.
-        Weights of several kinds are summed, in the parts that the store counts (see `Units.weight_scale`).
-
-        >>> session.to_scipy().shape  # needs scipy
-        (4, 4)
-        """
-        return self.edges(kind, since, until).to_scipy()
-
-    def to_csv(self, path: Path, kind: Optional[str] = None, since: Moment = 0, until: Moment = LAST) -> int:
-        """Writes all edges as CSV in UTF-8 with a header, and returns how many there are. The columns are kind, source, target,
-        weight, first and recent. The file is written under another name and renamed when it is whole: an error or an interrupt
-        leaves what was there.
-
-        >>> session.to_csv("roads.csv")
-        4
-        """
-        return self.edges(kind, since, until).to_csv(path)
-
-    def diff(self, later: "Session[Any, Any]", kind: Optional[str] = None, since: Moment = 0, until: Moment = LAST) -> Diff[W, T]:
+    def diff(self, later: Session[Any, Any], kind: Optional[str] = None, since: Moment = 0, until: Moment = LAST) -> Diff[W, T]:
         """Returns what became of this version's edges in a later one: those gone, new, and with another weight or time. The later
         session may be of another store, if its units are the same; `ValueError` if they aren't.
 
@@ -300,11 +263,15 @@ class Session(Generic[W, T]):
         >>> session.diff(store.open())
         <Diff: 1 gone, 0 new, 0 changed>
         """
-        if not later._terms.units._shows_as(self._terms.units):
-            raise ValueError(f"the sessions' stores have other units: {self._terms.units}, and {later._terms.units}")
+        self._must_show_as(later)
         return Diff(*(it._edges_or_none(kind, since, until) for it in (self, later)))
 
-    def _edges_or_none(self, kind: Optional[str], since: Moment, until: Moment) -> "Edges[W, T]":
+    def _must_show_as(self, other: Session[Any, Any]) -> None:
+        """Raises `ValueError` where weights and times of the two stores don't mean the same."""
+        if not self._terms.units._shows_as(other._terms.units):
+            raise ValueError(f"the sessions' stores have other units: {self.store.units!r}, and {other.store.units!r}")
+
+    def _edges_or_none(self, kind: Optional[str], since: Moment, until: Moment) -> Edges[W, T]:
         """All edges; none of a kind that the version doesn't have."""
         try:
             return self.edges(kind, since, until)
@@ -313,7 +280,7 @@ class Session(Generic[W, T]):
 
     # From vertex to vertex.
 
-    def _beside(self, vertex: str, kind: Optional[str], since: Moment, until: Moment, is_out: bool) -> "Edges[W, T]":
+    def _beside(self, vertex: str, kind: Optional[str], since: Moment, until: Moment, is_out: bool) -> Edges[W, T]:
         call, name = (self._held.out_of, "out_edges") if is_out else (self._held.into, "in_edges")
         if kind is None and since == 0 and until == LAST and vertex in self._terms.right and self._held.is_open:
             try:  # (in few steps: they are as long as the call)
@@ -323,7 +290,7 @@ class Session(Generic[W, T]):
         scope, asked = self._scope(name, kind, since, until, vertex)
         return self._edges(self._asked(call, asked, scope, self._terms.asked(vertex)))
 
-    def out_edges(self, source: str, kind: Optional[str] = None, since: Moment = 0, until: Moment = LAST) -> "Edges[W, T]":
+    def out_edges(self, source: str, kind: Optional[str] = None, since: Moment = 0, until: Moment = LAST) -> Edges[W, T]:
         """Returns the edges that go out of a vertex as `Edges`, those of several kinds one by one.
 
         >>> session.out_edges("hanau")[0]
@@ -331,7 +298,7 @@ class Session(Generic[W, T]):
         """
         return self._beside(source, kind, since, until, True)
 
-    def in_edges(self, target: str, kind: Optional[str] = None, since: Moment = 0, until: Moment = LAST) -> "Edges[W, T]":
+    def in_edges(self, target: str, kind: Optional[str] = None, since: Moment = 0, until: Moment = LAST) -> Edges[W, T]:
         """Returns the edges that come into a vertex, as `out_edges` does. The first such request sorts all edges of the version
         by target, and the session keeps the result.
 
@@ -371,7 +338,7 @@ class Session(Generic[W, T]):
 
     @overload
     def path(self, source: str, target: str, kind: Optional[str] = None, since: Moment = 0, until: Moment = LAST, *,
-             edges: Literal[True]) -> "Optional[List[Told[W, T]]]": ...
+             edges: Literal[True]) -> Optional[List[Told[W, T]]]: ...
 
     @overload
     def path(self, source: str, target: str, kind: Optional[str] = None, since: Moment = 0, until: Moment = LAST, *,
@@ -460,22 +427,22 @@ class Session(Generic[W, T]):
         """
         return sum(self._held.degrees(Scope())[0])
 
-    def save(self, path: Path, *, progress: Optional[bool] = None) -> "Saved":
+    def save(self, path: Path) -> Saved:
         """Writes the version to one file, from which `Store.restore` makes a store.
 
         >>> session.save("roads.csv.gz").edges
         4
 
         The file has everything that answers depend on, with the store's units and names, but neither pending operations nor other
-        versions. The end of its name chooses a compression: .gz, .xz, .bz2, or .zst with the package zstandard. `progress` shows
-        or hides a bar. Up to 999,999 records it is a script for `stinger run`, with two records for an edge whose times differ,
-        for a name without an edge in its place, and for each batch.
+        versions. The end of its name chooses a compression: .gz, .xz, .bz2, or .zst with the package zstandard. Up to 999,999
+        records it is a script for `stinger run`, with two records for an edge whose times differ, for a name without an edge in
+        its place, and for each batch.
 
         The file is written under another name and renamed when it is whole and on the disk: an error, an interrupt or a crash
         leaves what was there, a killed process perhaps a file that ends in .part. Links and a file's rights stay. Raises
         `OSError` if it can't be written, and `Missing` if nothing here compresses it."""
         from .saving import save
-        return save(self, path, progress)
+        return save(self, path)
 
     def close(self) -> None:
         """Ends the session, so that collections may free the blocks of its version.
@@ -487,7 +454,7 @@ class Session(Generic[W, T]):
         if not self.store._engine.is_elsewhere and not self.store.is_closed:
             self._held.close()
 
-    def __enter__(self) -> "Session[W, T]":
+    def __enter__(self) -> Session[W, T]:
         return self
 
     def __exit__(self, *_: object) -> None:

@@ -10,22 +10,17 @@ from typing import (TYPE_CHECKING, Any, Callable, Dict, Generic, Iterator, List,
                     overload)
 
 from .engine.guard import Uncopied, noting
-from .engine.library import LibraryEngine
 from .engine.operations import ADD, EXPIRE, INSERT, REMOVE
 from .engine.protocol import Denied, Engine
 from .errors import NoSeat, PoolEmpty, Refused, StoreError, Uncommitted
 from .feeds.opening import reads
-from .journal.engine import AsOf, Journaled
-from .journal.compaction import History
-from .journal.file import StoreFile
-from .journal.opening import When, open_at, open_journal, take_over, units_of
 from .ledger import Ledger
 from .session import Session
 from .values import records
 from .values.answers import Collected, Commit, Compacted, Stat, T, W, shown_as_html
 from .values.limits import Limits, within
 from .values.texts import Path
-from .values.units import Amount, Moment, Units
+from .values.units import Amount, Moment, Units, units_given
 
 if TYPE_CHECKING:
     from typing_extensions import Unpack
@@ -35,6 +30,10 @@ if TYPE_CHECKING:
     from .feeds.loading import Loaded
     from .feeds.spans import Span
     from .feeds.surveys import Survey
+    from .journal.compaction import History
+    from .journal.engine import AsOf, Journaled
+    from .journal.file import StoreFile
+    from .journal.opening import When
 
 R = TypeVar("R")
 
@@ -63,7 +62,7 @@ class Store(Uncopied, Generic[W, T]):
     - `blocks`: how many blocks there are, 16 or more. A block takes 1 KB once it is used, and has room for 32 edges of one kind
       and source. Without it there are 65,536, and more when they are needed.
     - `limits`: how many vertices, kinds and batches there may be, and the greatest weight (`Limits`).
-    - `seats`: how many sessions may be open at once, 1 to 16.
+    - `seats`: how many sessions may be open at once, 1 to 16 (2 if it isn't given).
     - `endless`: whether names and kinds without an edge are dropped when there would be too many (see `compact`).
     - `sync`: "full" has each batch on the disk before `commit` returns; with "normal" or "off" a loss of power may cost some.
     - `history`: how many versions the file keeps, or of how long ago (a `timedelta`).
@@ -74,24 +73,27 @@ class Store(Uncopied, Generic[W, T]):
     _is_closed = True
 
     @overload
-    def __init__(self, path: Optional[Path] = None, *, units: Units[W, T], **options: "Unpack[StoreOptions]") -> None: ...
+    def __init__(self, path: Optional[Path] = None, *, units: Units[W, T], **options: Unpack[StoreOptions]) -> None: ...
 
     @overload
-    def __init__(self: "Store[Any, Any]", path: Optional[Path] = None, *, units: None = None,
-                 **options: "Unpack[StoreOptions]") -> None: ...
+    def __init__(self: Store[Any, Any], path: Optional[Path] = None, *, units: None = None,
+                 **options: Unpack[StoreOptions]) -> None: ...
 
     def __init__(self, path: Optional[Path] = None, *, units: Optional[Units[Any, Any]] = None, blocks: Optional[int] = None,
                  limits: Optional[Limits] = None, seats: int = records.USUAL_SEATS, endless: bool = False,
-                 sync: "Sync" = "full", history: History = None) -> None:
-        given = Units() if units is None else units
+                 sync: Sync = "full", history: History = None) -> None:
+        given = units_given(units)
         if path is None:
+            from .engine.library import LibraryEngine
             self._begin(LibraryEngine(blocks, seats, endless, limits or Limits()), given, given._are_given)
         else:
+            from .journal.opening import open_journal
             self._begin_with(open_journal(path, sync=sync, blocks=blocks, seats=seats, endless=endless, limits=limits,
                                           units=given, history=history), given)
 
-    def _begin_with(self, engine: "Journaled | AsOf", units: Units[Any, Any]) -> None:
+    def _begin_with(self, engine: Journaled | AsOf, units: Units[Any, Any]) -> None:
         """Begins with what a file has."""
+        from .journal.opening import take_over, units_of
         self._begin(engine, units_of(engine.settings, units), engine.settings.times is not None)
         take_over(engine, self._ledger)
 
@@ -117,7 +119,7 @@ class Store(Uncopied, Generic[W, T]):
         self._ledger.keep(INSERT, kind, source, target, weight, time)
 
     def add(self, kind: str, source: str, target: str, amount: Amount = 1, time: Moment = 0) -> None:
-        """Adds to the weight of the edge that is there, or adds the edge, as for repeated transfers.
+        """Adds to the weight of the edge that is there, or adds the edge, as for repeated transfers. Errors are as of `insert`.
 
         >>> store.add("rail", "kassel", "hanau", 40, time=5)
         >>> store.commit().updated
@@ -135,7 +137,7 @@ class Store(Uncopied, Generic[W, T]):
         self._ledger.keep(REMOVE, kind, source, target, 0, 0)
 
     def expire(self, time: Moment) -> None:
-        """Removes each edge whose recent time is before `time`; `commit` counts them as `expired`.
+        """Removes each edge whose recent time is before `time`, in the store's units; `commit` counts them as `expired`.
 
         Its batch needs as many free blocks more as are used.
 
@@ -203,7 +205,7 @@ class Store(Uncopied, Generic[W, T]):
         interrupt ends a commit, the batch that was begun is applied once, and those after it stay pending; the next commit counts
         it too.
 
-        With `producer` and `sequence`, a number that grows, a store with a file applies what is pending, at most 65,536
+        With `producer`, a name, and `sequence`, a number that grows, a store with a file applies what is pending, at most 65,536
         operations, as one batch and once: the same commit again returns the first one's answer, also after a restart.
 
         >>> store.remove("rail", "kassel", "bonn")
@@ -224,17 +226,18 @@ class Store(Uncopied, Generic[W, T]):
         return done
 
     @reads
-    def load(self, data: Any, *, by: "By", batch: Optional[int] = None, collect: bool = True, skip_bad: bool = False,
-             rejects: Optional[Path] = None, progress: Optional[bool] = None, **read_as: "Unpack[ReadOptions]") -> "Loaded":
-        """Loads a path (`-` is standard input), a networkx graph, a pandas frame, columns by name, rows, or a `Survey`.
+    def load(self, data: Any, *, by: By, batch: Optional[int] = None, collect: bool = True, skip_bad: bool = False,
+             rejects: Optional[Path] = None, progress: Optional[bool] = None, **read_as: Unpack[ReadOptions]) -> Loaded:
+        """Loads a file, a networkx graph, a pandas DataFrame, columns by name, rows, or a `Survey`, and commits it.
 
         >>> store.load([("bonn", "kassel", 230, 5, "road")], by="set").commit.inserted
         1
 
-        A later row of the same kind, source and target replaces the weight of the first with `by="set"`, and adds to it with
-        `by="add"`. Rows are applied in batches of `batch`, 1 to 4,096, each of which makes a version; a collection follows each,
-        unless `collect=False`. Without `batch` they have up to 65,536 rows, as far as blocks are free; an empty store takes them
-        in one step.
+        A file is its path (`-` is standard input); a row is a dict, or a tuple of source, target and then, if there are more,
+        weight, time and kind. `columns` says which columns of a file, a DataFrame or dicts have kinds, weights and times. A later
+        row of the same kind, source and target replaces the weight of the first with `by="set"`, and adds to it with `by="add"`.
+        Rows are applied in batches of `batch`, 1 to 4,096, each of which makes a version; a collection follows each, unless
+        `collect=False`. Without `batch` they have up to 65,536 rows, if blocks are free; an empty store takes all at once.
 
         Everything is read and checked first. Nothing is applied if rows are bad (`BadRows` has line, field and reason; `skip_bad`
         skips and counts them), if the feed is more than the store takes (`OverLimit`, with counts), or if its units aren't the
@@ -248,9 +251,8 @@ class Store(Uncopied, Generic[W, T]):
         return load(self, data, by=by, batch=batch, collect=collect, skip_bad=skip_bad, rejects=rejects, progress=progress,
                     **read_as)
 
-    def load_in_steps(self, survey: "Survey", *, collect: bool = True, skip_bad: bool = False) -> Iterator[Commit]:
-        """Loads a survey by its own batches: returns an iterator of what each did, which applies the next one only when it goes
-        on.
+    def load_in_steps(self, survey: Survey, *, collect: bool = True, skip_bad: bool = False) -> Iterator[Commit]:
+        """Loads a survey by its own batches: an iterator of what each did, which applies the next one only when it goes on.
 
         Sessions can be opened in between. Options and errors are those of `load`.
 
@@ -262,23 +264,23 @@ class Store(Uncopied, Generic[W, T]):
         return load_in_steps(self, survey, collect=collect, skip_bad=skip_bad)
 
     @reads
-    def follow(self, feed: Any, *, by: "By", every: "Span" = 1.0, keep: "Optional[Span]" = None,
-               ahead: "Optional[Span]" = None, batch: int = records.MOST_OPERATIONS, until_end: bool = False,
+    def follow(self, feed: Any, *, by: By, every: Span = 1.0, keep: Optional[Span] = None,
+               ahead: Optional[Span] = None, batch: int = records.MOST_OPERATIONS, until_end: bool = False,
                skip_bad: bool = False, rejects: Optional[Path] = None, progress: Optional[bool] = None,
-               **read_as: "Unpack[ReadOptions]") -> "Following":
+               **read_as: Unpack[ReadOptions]) -> Following:
         """Follows a file that grows, standard input (`-`), or an open pipe or socket: each step of the result is a commit.
 
-        >>> session.to_csv("roads.csv")
+        >>> session.edges().to_csv("roads.csv")
         4
         >>> columns = Columns(kind="kind", weight="weight", time="recent")
         >>> with store.follow("roads.csv", by="set", columns=columns, until_end=True) as following:
         ...     print(*following)
         version 2: 4 rows to line 5, 4 updated; newest 4
 
-        A commit comes when a row has waited for `every` (seconds, or a text as "500ms"), or when its batch has `batch`
-        operations, 1 to 4,096. With `keep`, each commit expires the edges whose recent time is before the newest of the feed
-        minus `keep`: a length of time, as "14d", if times are dates, and else a whole number. A date more than `ahead`, as "1h",
-        ahead of the clock here is a bad row; with `keep` that is "1d" if it isn't given.
+        `by` is "set" or "add", as of `load`. A commit comes when a row has waited for `every` (seconds, or a text as "500ms"), or
+        when its batch has `batch` operations, 1 to 4,096. With `keep`, each commit expires the edges whose recent time is before
+        the newest of the feed minus `keep`: a length of time, as "14d", if times are dates, and else a whole number. A date more
+        than `ahead`, as "1h", ahead of the clock here is a bad row; with `keep` that is "1d" if it isn't given.
 
         A file is followed beyond its end, unless `until_end`; a pipe ends when its writers do, and `Following.stop` ends the
         steps with everything in that was read. A bad row ends them by `BadRows` when all before it is in, unless `skip_bad` or
@@ -291,7 +293,7 @@ class Store(Uncopied, Generic[W, T]):
 
     @classmethod
     def restore(cls, path: Path, *, units: Optional[Units[Any, Any]] = None, blocks: Optional[int] = None,
-                progress: Optional[bool] = None, **options: "Unpack[RestoreOptions]") -> "Store[Any, Any]":
+                progress: Optional[bool] = None, **options: Unpack[RestoreOptions]) -> Store[Any, Any]:
         """Returns a store with the version that `Session.save` wrote to a file. It answers every request as that version did.
 
         >>> saved = session.save("roads.csv.gz")
@@ -304,9 +306,9 @@ class Store(Uncopied, Generic[W, T]):
         store is made if the file is no saved version, or is damaged or cut (`SaveFault`; a digest finds that, but no forger), if
         it has other units (`ValueError`), or if `blocks` are too few (`PoolEmpty`, with those `needed`)."""
         from .saving import restore
-        given = Units() if units is None else units
+        given = units_given(units)
 
-        def make(found: int, saved: Units[Any, Any]) -> "Store[Any, Any]":
+        def make(found: int, saved: Units[Any, Any]) -> Store[Any, Any]:
             both = given._or_those(saved)
             if saved._are_given and not both._same_as(saved):
                 raise ValueError(f"{path} has {saved}, and not {both}")
@@ -314,8 +316,8 @@ class Store(Uncopied, Generic[W, T]):
         return restore(path, make, blocks, progress)
 
     @classmethod
-    def at(cls, path: Path, *, version: Optional[int] = None, time: "Optional[When]" = None,
-           units: Optional[Units[Any, Any]] = None, seats: int = records.USUAL_SEATS) -> "Store[Any, Any]":
+    def at(cls, path: Path, *, version: Optional[int] = None, time: Optional[When] = None,
+           units: Optional[Units[Any, Any]] = None, seats: int = records.USUAL_SEATS) -> Store[Any, Any]:
         """Returns what a store's file held at a version or a time, as a store that is only read.
 
         >>> with Store("roads.db") as kept:
@@ -327,8 +329,9 @@ class Store(Uncopied, Generic[W, T]):
         Give one of `version` and `time`, a date or microseconds since 1970: the last version that was written by then. Another
         process may write the file meanwhile. `units` may say how weights are shown. `ReadOnly` refuses operations; `ValueError`
         says that the file has no such version, or no longer, and `JournalFault` that it isn't as it was written."""
+        from .journal.opening import open_at
         store = cls.__new__(cls)
-        store._begin_with(open_at(path, version, time, seats), Units() if units is None else units)
+        store._begin_with(open_at(path, version, time, seats), units_given(units))
         return store
 
     # Requests.
@@ -375,7 +378,7 @@ class Store(Uncopied, Generic[W, T]):
         try:
             return Session(self, self._engine.hold(slot))
         except NoSeat:
-            more = f", or make the store with more seats ({records.MOST_SEATS} at most)" * (self.seats < records.MOST_SEATS)
+            more = f", or make the store with more (seats=, {records.MOST_SEATS} at most)" * (self.seats < records.MOST_SEATS)
             raise NoSeat(f"all {self.seats} seats hold sessions: close one{more}") from None
         except Denied as fault:
             raise self._ledger.terms.denied(fault, f"open({slot})") from None
@@ -430,6 +433,7 @@ class Store(Uncopied, Generic[W, T]):
         ...     print(kept.file.last_sequence("sensor"))
         None
         """
+        from .journal.file import StoreFile
         self._ledger.settle()
         return StoreFile(self._engine)
 
@@ -452,7 +456,7 @@ class Store(Uncopied, Generic[W, T]):
         """What is known of the operations that were pending."""
         return f"{len(lost)} operations were pending and are not applied"
 
-    def _end(self) -> "Tuple[Optional[Uncommitted], Iterator[Any]]":
+    def _end(self) -> Tuple[Optional[Uncommitted], Iterator[Any]]:
         """Ends the engine. Gives what is lost by that, and notes that it was said. A fork ends nothing."""
         if self._is_closed or self._engine.is_elsewhere:
             return None, iter(())
@@ -478,7 +482,7 @@ class Store(Uncopied, Generic[W, T]):
         self._engine.close()
         self._is_closed = True
 
-    def __enter__(self) -> "Store[W, T]":
+    def __enter__(self) -> Store[W, T]:
         return self
 
     def __exit__(self, kind: Optional[Type[BaseException]], fault: Optional[BaseException],

@@ -13,23 +13,26 @@ ROWS = ("insert k a b 5 1", "insert k b c 7 2", "insert l a c 3 3", "insert l c 
 LATER = ("remove l a c", "add k b c 2 7", "insert m d b 6 8")
 # What of a session asks for no answer.
 NO_ANSWERS = {"close", "edge_count", "is_open", "save", "store", "version", "vertex_count"}
-NEEDED = {"to_networkx": "networkx", "to_igraph": "igraph", "to_scipy": "scipy"}
+# What edges become, and the package that it needs.
+BECOME = {"to_networkx": "networkx", "to_igraph": "igraph", "to_scipy": "scipy"}
 Call = Tuple[str, Callable[..., Any], Tuple[Any, ...]]
 
 
 def calls(path: str) -> List[Call]:
     """The calls by name, with what each is given besides the session. A file that one writes has this path."""
     given: Dict[str, Tuple[Any, ...]] = {
-        "edge": ("k", "a", "b"), "levels": ("a",), "path": ("a", "d"), "neighborhood": ("a", 2), "to_csv": (path,),
+        "edge": ("k", "a", "b"), "levels": ("a",), "path": ("a", "d"), "neighborhood": ("a", 2),
         "get_edges": ([("k", "a", "b"), ("k", "b", "c")],), "has_edge": ("k", "a", "b"), "has_vertex": ("a",),
         **dict.fromkeys(("out_edges", "in_edges", "successors", "predecessors", "neighbors"), ("a",))}
     of_session = sorted({it for it in vars(Session) if not it.startswith("_")} - NO_ANSWERS - {"diff"})
-    found: List[Call] = [(it, getattr(Session, it), given.get(it, ())) for it in of_session
-                         if optional(NEEDED.get(it, "misteluk"))]
+    found: List[Call] = [(it, getattr(Session, it), given.get(it, ())) for it in of_session]
+    found += [(it, lambda session, it=it: getattr(session.edges(), it)(), ())
+              for it, package in {"to_pandas": "pandas", **BECOME}.items() if optional(package)]
     found += [(f"{it} of a kind", getattr(Session, it), (*given.get(it, ()), "k", 1, 6)) for it in (
         "levels", "components", "cores", "degrees", "weights_in", "edges", "out_edges", "in_edges")]
     return found + [
-        ("edge count", lambda session: session.edge_count, ()), ("a frame", lambda session: session.edges().frame(), ()),
+        ("edge count", lambda session: session.edge_count, ()),
+        ("to_csv", lambda session: session.edges().to_csv(path), ()),
         ("either way", lambda session: session.neighborhood("a", 2, directed=False), ()),
         ("diff", lambda session: session.diff(session), ()), ("view", misteluk.view, ("a",))]
 

@@ -4,8 +4,11 @@ from __future__ import annotations
 from typing import Any, Optional
 from unittest import mock
 
+import misteluk.engine.openings  # noqa: F401  (these two have the library's engine from here on)
+import misteluk.journal.engine  # noqa: F401
 import misteluk.store
 from misteluk import Store
+from misteluk.engine import library
 from misteluk.engine.library import LibraryEngine
 from misteluk.engine.protocol import Engine
 from misteluk.ledger import Ledger
@@ -17,7 +20,7 @@ from misteluk.serve.talk import Talk
 
 # Tests of what a server's clients can't do, as to begin a store anew, or do otherwise: its seats are the server's.
 NOT_SERVED = ("Stores.test_a_store_begins_anew", "Stores.test_arguments", "Stores.test_collect", "Stores.test_seats",
-              "Stores.test_operations")
+              "Stores.test_operations", "Stores.test_what_a_compaction_tells")
 
 
 class Own(ServedEngine):
@@ -36,7 +39,7 @@ class Own(ServedEngine):
 
 def made(blocks: Optional[int], seats: int, endless: bool, limits: "misteluk.Limits") -> Engine:
     """As `LibraryEngine`, but that a server has the store."""
-    with mock.patch.object(misteluk.store, "LibraryEngine", LibraryEngine):
+    with mock.patch.object(library, "LibraryEngine", LibraryEngine):
         store = Store(blocks=blocks, seats=16, endless=endless, limits=limits)
     server = Server(store, "127.0.0.1:0", limits=ServerLimits(idle=600))
     own = Own(server.start())
@@ -52,5 +55,5 @@ def ledger_of(engine: Any, *given: Any) -> Ledger:
 
 def serve_all() -> None:
     """From here on each store is a server's."""
-    misteluk.store.LibraryEngine = made  # type: ignore[misc, assignment]
+    library.LibraryEngine = made  # type: ignore[misc, assignment]
     misteluk.store.Ledger = ledger_of  # type: ignore[misc, assignment]

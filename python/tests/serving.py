@@ -22,6 +22,8 @@ HAS_PACKAGES = all(map(optional, ("starlette", "uvicorn")))
 NO_PACKAGES = "starlette or uvicorn is not there"
 FEED = (("add", "transfer", "ana", "funnel", 980, 1), ("add", "transfer", "ben", "funnel", 950, 1),
         ("add", "transfer", "funnel", "offshore", 3850, 3), ("add", "owes", "boss", "ana", 2100, 1))
+# The columns of the rows that a server follows.
+ROWS = misteluk.Columns(1, 2, weight=3, time=4)
 
 
 class Told(NamedTuple):
@@ -108,3 +110,42 @@ class ServeCase(Case):
     def rooms_of(self, text: str) -> bool:
         """Whether a text names a place of this machine."""
         return any(it in text for it in (str(self.room), str(pathlib.Path(misteluk.__file__).parent), "/home", "Traceback"))
+
+
+class ProcessCase(ServeCase):
+    """A case with `misteluk serve` as a process, at a socket."""
+
+    def setUp(self) -> None:
+        super().setUp()
+        self.path, self.saved = str(self.room / "socket"), str(self.room / "graph.gz")
+
+    def client(self) -> "misteluk.ServedStore[Any, Any]":
+        store = misteluk.connect(f"unix:{self.path}")
+        self.addCleanup(store.close)
+        return store
+
+    def stat(self, store: Any) -> Any:
+        """What the server tells, to a client."""
+        return store._engine.talk.call("GET", "/v1/stat").json()
+
+    def end(self, process: "subprocess.Popen[str]") -> None:
+        """Kills a process."""
+        process.kill()
+        self.assertEqual(process.wait(), -9)
+
+
+class FollowCase(ServeCase):
+    """A case with a server that follows a file."""
+
+    def of_feed(self) -> Any:
+        """What the server tells of its feed."""
+        return self.ask("/v1/stat").json["feed"]
+
+    def follow(self, path: str, **options: Any) -> Any:
+        how: Dict[str, Any] = {"by": "add", "every": 0.01, "columns": ROWS, **options}
+        self.server.feeding.follow(self.server.store.follow(path, **how))
+        return self.server.feeding.readers.last
+
+    def append(self, path: str, text: str) -> None:
+        with open(path, "a") as file:
+            file.write(text)

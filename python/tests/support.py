@@ -11,7 +11,7 @@ import tempfile
 import time
 import unittest
 from contextlib import redirect_stderr, redirect_stdout
-from typing import Any, Callable, Dict, List, Tuple
+from typing import Any, Callable, Dict, List, Tuple, Type
 
 # Whether stores are a server's: some files of tests run over stores in this process, and over those too.
 IS_SERVED = "MISTELUK_SERVED" in os.environ
@@ -26,6 +26,7 @@ sys.path.insert(0, str(HERE.parent))
 from misteluk import Store  # noqa: E402
 from misteluk.engine.finding import find_program  # noqa: E402
 from misteluk.command.main import main  # noqa: E402
+from misteluk.feeds.opening import ReadAs  # noqa: E402
 
 
 if IS_SERVED:
@@ -51,6 +52,11 @@ def words_of(script: bytes) -> Dict[int, str]:
     run = subprocess.run([find_program(), "run", "--blocks", "16"], input=script, stdout=subprocess.PIPE,
                          stderr=subprocess.DEVNULL, timeout=60)
     return {int(number): word.decode() for number, word in re.findall(rb"(?m)^error (\d+) ([A-Z][A-Za-z]+)$", run.stdout)}
+
+
+def feed_of(data: Any, **options: Any) -> Any:
+    """The feed of what is given, read by these options."""
+    return ReadAs.of(options).feed(data)
 
 
 def as_soon_as(is_so: Callable[[], object], seconds: float = 120.0) -> None:
@@ -93,6 +99,13 @@ class Case(unittest.TestCase):
             getattr(store, word)(*names[:3], *map(int, names[3:]))
         if operations:
             store.commit()
+
+    def refused(self, error: Type[BaseException], told: str, call: Callable[[], object]) -> str:
+        """Whether a call raises an error whose text has what is told; gives the text."""
+        with self.assertRaises(error) as fault:
+            call()
+        self.assertIn(told, str(fault.exception))
+        return str(fault.exception)
 
     def file(self, name: str, text: str) -> str:
         (self.room / name).write_text(text)

@@ -8,7 +8,7 @@ from dataclasses import is_dataclass
 from collections import defaultdict
 from unittest import mock
 
-from asking import NO_ANSWERS, awaited
+from asking import BECOME, NO_ANSWERS, awaited
 from graphs import KINDS, NAMES
 from harness import LAST, Refused, Run
 from support import Case, IS_SERVED, optional, row
@@ -105,7 +105,7 @@ SAID = {
     "diff": lambda voice, a, b, k, later: diff(voice, later),
 }
 # Questions that need a package: where it isn't there they are passed over.
-NEEDS = {"frame": "pandas", "to_networkx": "networkx", "to_igraph": "igraph", "to_scipy": "scipy"}
+NEEDS = {"frame": "pandas", **BECOME}
 ASKED = [it for it in SAID if optional(NEEDS.get(it, "misteluk"))]
 
 
@@ -142,7 +142,7 @@ def path_of(session, ask, a, b, *window):
 
 
 def csv_of(ask, path, *window):
-    count = ask(Session.to_csv, path, *window)
+    count = ask(Session.edges, *window).to_csv(path)
     with open(path, encoding="utf-8", newline="") as file:
         rows = list(csv.reader(file))[1:]
     assert len(rows) == count
@@ -174,9 +174,9 @@ def asked(session, ask, name, path, a, b, k, *window):
     if name == "kinds":
         return set(ask(Session.kinds))
     if name == "frame":
-        rows = ask(Session.edges, *window).frame()
+        rows = ask(Session.edges, *window).to_pandas()
         return {it[:3]: it[3:] for it in rows.itertuples(index=False, name=None)}
-    found = ask(getattr(Session, name), *window)
+    found = getattr(ask(Session.edges, *window), name)() if name in BECOME else ask(getattr(Session, name), *window)
     if name == "to_networkx":
         return {(key, *ends): tuple(it[field] for field in misteluk.Edge._fields)
                 for *ends, key, it in found.edges(keys=True, data=True)}
@@ -308,7 +308,7 @@ class Comparison(Case):
         """Each public call of a session that answers has its counterpart, so that none is left out."""
         questions = {it for it in vars(Session) if not it.startswith("_")} - NO_ANSWERS
         self.assertEqual(questions - set(SAID), {"get_edges"})  # (which is asked with each edge)
-        self.assertEqual(set(SAID) - questions, {"either_way", "edge_count", "frame"})
+        self.assertEqual(set(SAID) - questions, {"either_way", "edge_count", "frame", "to_csv", *BECOME})
 
     def test_a_planted_difference_is_found(self):
         right = {it: getattr(Session, it) for it in ("levels", "edges", "in_edges", "successors", "diff")}

@@ -24,13 +24,14 @@ ROADS = ("insert road ulm kiel 5 1", "insert road kiel bonn 7 2", "insert rail u
 class Tables(Case):
     def test_no_dict_is_made_before_it_is_asked_for(self):
         degrees = self.store(*ROADS).open().degrees()
-        self.assertEqual((len(degrees), list(degrees), degrees.top(1, "weight")), (3, ["ulm", "kiel", "bonn"], [
+        self.assertEqual((len(degrees), list(degrees), degrees.top(1, "weight_out")), (3, ["ulm", "kiel", "bonn"], [
             ("ulm", Degree(2, 0, 8))]))
         self.assertEqual([list(it.values) for it in degrees.columns.values()], [[2, 1, 0], [0, 1, 2], [8, 7, 0]])
         self.assertIsNone(degrees._rows)
         self.assertEqual(degrees, {"ulm": Degree(2, 0, 8), "kiel": Degree(1, 1, 7), "bonn": Degree(0, 2, 0)})
-        self.assertIsNot(degrees.dict(), degrees.dict())
-        self.assertEqual(json.loads(json.dumps(self.store(*ROADS).open().levels("ulm").dict())), {"ulm": 0, "kiel": 1, "bonn": 1})
+        self.assertIsNot(degrees.to_dict(), degrees.to_dict())
+        levels = self.store(*ROADS).open().levels("ulm")
+        self.assertEqual(json.loads(json.dumps(levels.to_dict())), {"ulm": 0, "kiel": 1, "bonn": 1})
 
     def test_it_is_a_mapping(self):
         levels = self.store(*ROADS).open().levels("kiel")
@@ -56,10 +57,10 @@ class Tables(Case):
     @unittest.skipUnless(numpy and pandas, "numpy and pandas are not there")
     def test_arrays_and_frames(self):
         session = self.store(*ROADS, units=Units(weight_scale=10, decimals="float")).open()
-        self.assertEqual({name: it.tolist() for name, it in session.degrees().numpy().items()},
+        self.assertEqual({name: it.tolist() for name, it in session.degrees().to_numpy().items()},
                          {"out": [2, 1, 0], "into": [0, 1, 2], "weight_out": [80, 70, 0]})
-        self.assertEqual(session.components().numpy()["label"].tolist(), ["ulm"] * 3)
-        frame = session.degrees().frame()
+        self.assertEqual(session.components().to_numpy()["label"].tolist(), ["ulm"] * 3)
+        frame = session.degrees().to_pandas()
         self.assertEqual((list(frame.index), frame["weight_out"].tolist()), (["ulm", "kiel", "bonn"], [8.0, 7.0, 0.0]))
 
 
@@ -311,7 +312,7 @@ class EdgesOfAVersion(Case):
                 store.insert("road", "ulm", "kiel", "0.30", day)
             store.insert("rail", "kiel", "ulm", 7)
             store.commit()
-            frame = store.open().edges().frame()
+            frame = store.open().edges().to_pandas()
             self.assertEqual(list(frame.columns), ["kind", "source", "target", "weight", "first", "recent"])
             self.assertEqual(list(zip(frame["kind"], frame["weight"])), [("road", Decimal("0.30")), ("rail", Decimal(7))])
             for column, dates in (("first", [days[0]] * 2), ("recent", [days[1], days[0]])):
@@ -323,15 +324,15 @@ class EdgesOfAVersion(Case):
         store = self.store(*ROADS)
         first = store.open()
         self.feed(store, "remove rail ulm bonn", "add road kiel bonn 1 5")
-        frame = first.diff(store.open()).frame()
+        frame = first.diff(store.open()).to_pandas()
         self.assertEqual(frame["state"].tolist(), ["gone", "changed"])
         self.assertEqual(frame["weight_before"].tolist(), [3, 7])
-        arrays = first.edges().numpy()
+        arrays = first.edges().to_numpy()
         self.assertEqual((arrays["weight"].dtype.str, sorted(arrays["weight"].tolist())), ("<i8", [3, 5, 7]))
 
     @unittest.skipUnless(igraph, "igraph is not there")
     def test_igraph(self):
-        graph = self.store(*ROADS).open().to_igraph()
+        graph = self.store(*ROADS).open().edges().to_igraph()
         self.assertEqual((graph.vcount(), graph.ecount(), graph.is_directed(), graph.vs["name"]), (3, 3, True, [
             "ulm", "kiel", "bonn"]))
         edges = {(it["kind"], graph.vs[it.source]["name"], graph.vs[it.target]["name"], it["weight"]) for it in graph.es}
@@ -340,7 +341,7 @@ class EdgesOfAVersion(Case):
     @unittest.skipUnless(scipy and numpy, "scipy is not there")
     def test_scipy(self):
         session = self.store(*ROADS, "insert rail ulm kiel 4 1").open()
-        matrix, names = session.to_scipy(), list(session.edges().names)
+        matrix, names = session.edges().to_scipy(), list(session.edges().names)
         self.assertEqual((matrix.shape, matrix[names.index("ulm"), names.index("kiel")], matrix.sum()), ((3, 3), 9, 19))
 
 

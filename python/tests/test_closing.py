@@ -17,7 +17,7 @@ from misteluk import SessionClosed
 OURS, A_WHILE = ("/misteluk/engine/held.py", "/misteluk/serve/client.py", "/misteluk/session.py"), 2.0
 # The calls that keep what they were told, or go by what is kept.
 OF_ALL = "degrees", "edges", "in_edges of a kind", "out_edges", "in_edges", "levels", "edge count"
-OF_OTHERS = ("a frame", "to_networkx", "to_igraph", "to_scipy", "view", "to_csv")
+OF_OTHERS = ("to_pandas", "to_networkx", "to_igraph", "to_scipy", "view", "to_csv")
 CALLS = {name: (call, given) for name, call, given in calls("") if name not in OF_OTHERS}
 
 

@@ -198,7 +198,7 @@ class Differences(Case):
             for earlier, later in self.pairs(made, units):
                 found = diff.Diff(earlier, later)
                 wanted = pandas.DataFrame(found._rows(slice(None), None), columns=diff.DIFF_HEADER)
-                pandas.testing.assert_frame_equal(found.frame(), wanted, check_index_type=len(wanted) > 0)
+                pandas.testing.assert_frame_equal(found.to_pandas(), wanted, check_index_type=len(wanted) > 0)
 
     @unittest.skipUnless(numpy and pandas, "numpy and pandas are not there")
     def test_frames_of_dates_that_pandas_has_not(self):
@@ -209,7 +209,7 @@ class Differences(Case):
         for earlier, later in ((one, one.take([1])), (one.take([0]), one), (one.take([1]), one)):
             found = diff.Diff(earlier, later)
             wanted = pandas.DataFrame(found._rows(slice(None), None), columns=diff.DIFF_HEADER)
-            pandas.testing.assert_frame_equal(found.frame(), wanted)
+            pandas.testing.assert_frame_equal(found.to_pandas(), wanted)
 
 
 if __name__ == "__main__":

@@ -33,10 +33,10 @@ class Commands(CommandCase):
         self.load("degrees: 6 names, greatest by out\n  a out 2 in 0 weight 7\n  c out 1 in 1 weight 3", "--add", "--ask",
                   "degrees", "--top", "2")
         self.load("degrees: 6 names, greatest by out\n  a out 2 in 0 weight 6", "--set", "--ask", "degrees", "--top", "1")
-        self.load("degrees: 6 names, greatest by incoming\n  b out 0 in 1 weight 0", "--set", "--ask", "degrees", "--top", "1",
-                  "--by", "incoming")
-        self.load("degrees: 6 names, greatest by weight\n  a out 1 in 0 weight 5", "--add", "--ask", "degrees", "--top", "1",
-                  "--by", "weight", "--since", "13")
+        self.load("degrees: 6 names, greatest by into\n  b out 0 in 1 weight 0", "--set", "--ask", "degrees", "--top", "1",
+                  "--by", "into")
+        self.load("degrees: 6 names, greatest by weight_out\n  a out 1 in 0 weight 5", "--add", "--ask", "degrees", "--top", "1",
+                  "--by", "weight_out", "--since", "13")
         self.load("components: 2 of 6 names\n  a 4\n  x 2", "--add", "--ask", "components")
         self.load("components: 4 of 6 names\n  a 2", "--add", "--ask", "components", "--top", "1", "--since", "13")
         self.load("cores: 6 names, greatest 1\n  a 1", "--add", "--ask", "cores", "--top", "1")

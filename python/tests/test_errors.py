@@ -9,7 +9,7 @@ from misteluk.errors import Place, refusal
 from misteluk.values.records import Fault
 
 NO_VERTEX = "The version that the session holds has no such name; a later one may"
-OF_DATES = "Dates are taken by a store with times='iso' (--times iso)"
+OF_DATES = "Dates are taken by a store with Units(times='iso') (--times iso)"
 LESS = "Make batches smaller, or give the store more blocks"
 WITHOUT = "The others can be loaded without them: skip_bad=True (--skip-bad)"
 AT, A_TIME = Place("f.csv", 7), Fault("BadTime", "time", "x", "it is no number")

@@ -9,12 +9,11 @@ import unittest
 from contextlib import redirect_stderr
 from unittest import mock
 
-from support import Case, optional
+from support import Case, feed_of, optional
 
 import misteluk
 from misteluk import Columns, Commit, Edge
 from misteluk.feeds.delimited import delimited
-from misteluk.feeds.opening import open_feed
 from misteluk.feeds.feed import Feed
 from misteluk.feeds import feed as feeds, loading
 from misteluk.values import records
@@ -27,7 +26,7 @@ OF_TRANSFERS = Columns("from", "to", None, "amount", "when", "transfer")
 class Feeds(Case):
     def rows(self, wanted: str, name: str, text: str, **options) -> None:
         """Whether the file has these rows: a line each, its fields parted by a space."""
-        feed = open_feed(self.file(name, text), **options)
+        feed = feed_of(self.file(name, text), **options)
         self.assertEqual("\n".join(" ".join(map(str, it)) for it in feed.rows), wanted)
 
     def test_delimited(self):
@@ -88,7 +87,7 @@ class Feeds(Case):
     def test_gzip(self):
         path = self.room / "a.csv.gz"
         path.write_bytes(gzip.compress(TRANSFERS.encode()))
-        self.assertEqual(len(list(open_feed(str(path), columns=OF_TRANSFERS).rows)), 3)
+        self.assertEqual(len(list(feed_of(str(path), columns=OF_TRANSFERS).rows)), 3)
 
     def test_names_with_escapes(self):
         feed = Feed("f", [(1, "k", "A b", "50%", "1", "0"), (2, "k", "é", "*", "1", "0")])
@@ -107,7 +106,7 @@ class Feeds(Case):
 
     def fault(self, told: str, name: str, text: str, **options) -> None:
         with self.assertRaises(misteluk.errors.FeedFault) as fault:
-            list(open_feed(self.file(name, text), **options).rows)
+            list(feed_of(self.file(name, text), **options).rows)
         self.assertIn(told, str(fault.exception))
 
     def test_files_of_another_form(self):
@@ -124,7 +123,7 @@ class Feeds(Case):
     def test_a_delimiter_is_one_sign(self):
         path = self.file("a.csv", "a;b\n")
         for it in ("xx", "\\t", "\n", '"'):
-            for call in (lambda: open_feed(path, columns=Columns(1, 2), delimiter=it),
+            for call in (lambda: feed_of(path, columns=Columns(1, 2), delimiter=it),
                          lambda: self.store().follow(path, by="set", columns=Columns(1, 2), delimiter=it, until_end=True)):
                 with self.assertRaisesRegex(ValueError, "delimiter is one sign, as ; or a tab") as fault:
                     call()
@@ -300,7 +299,7 @@ class Absent(Case):
     def test_pandas_is_named_where_it_is_missing(self):
         with mock.patch.dict("sys.modules", {"pandas": None}):
             with self.assertRaisesRegex(misteluk.errors.Missing, "apt-get install python3-pandas"):
-                self.store().open().cores().frame()
+                self.store().open().cores().to_pandas()
 
 
 if __name__ == "__main__":

@@ -8,7 +8,7 @@ from unittest import mock
 
 from support import Case, optional
 
-from misteluk import BadRows, Columns, survey
+from misteluk import Columns, survey
 from misteluk.feeds import delimited
 from misteluk.values import fields
 

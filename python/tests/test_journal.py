@@ -14,7 +14,7 @@ from support import HERE, row
 
 from misteluk import Columns, Limits, Store, StoreError, Units
 from misteluk.errors import JournalFault, Locked, NamesFull, NotWritten, ReadOnly, SequenceTaken
-from misteluk.journal import beside, compaction, engine, tables
+from misteluk.journal import beside, compaction, engine
 from misteluk.journal.checking import check
 from misteluk.journal.compaction import write_base
 from misteluk.journal.journal import Journal
@@ -218,7 +218,7 @@ class Writers(JournalCase):
                 call()
         self.assertEqual((self.room / "graph.db").read_bytes(), before)
         self.path = self.file("text.db", "no database at all\n" * 100)
-        with self.assertRaisesRegex(JournalFault, "not a database"):
+        with self.assertRaisesRegex(JournalFault, "text.db is no store's file, .* Rows are loaded by Store.load, and what"):
             Store(self.path)
 
     def test_a_later_form(self):
@@ -391,7 +391,7 @@ class Tables(JournalCase):
                 put(other, batch(number), producer="feed", sequence=number)
             held, make, _ = other._engine._frozen()
             with Store(self.path) as store:
-                write_base(store._engine._journal, 4, tables.read_sum(store._engine._journal.opened, 4), make(held))
+                write_base(store._engine._journal, 4, self.rows("SELECT sum FROM batches WHERE version=4")[0][0], make(held))
             held.close()
         self.assertEqual(check(self.path).faults, ["the base of version 4 isn't the graph that the batches before it lead to"])
 

@@ -63,9 +63,14 @@ class Loading(Case):
                 "print(*sorted(sys.modules))")
         loaded = subprocess.run([sys.executable, "-c", code], stdout=subprocess.PIPE, text=True, cwd=HERE.parent, check=True,
                                 timeout=60).stdout.split()
-        later = {"asyncio", "ssl", "http", "email", "logging", "tempfile", "subprocess", "numpy", "misteluk.serve",
-                 "misteluk.page", "misteluk.command", "misteluk.saving"}
+        later = {"asyncio", "ssl", "http", "email", "logging", "tempfile", "subprocess", "numpy", "sqlite3", "hashlib", "html",
+                 "misteluk.journal", "misteluk.serve", "misteluk.page", "misteluk.command", "misteluk.saving"}
         self.assertEqual(later & set(loaded), set())
+        self.assertIn("misteluk.engine.library", loaded)
+        code = "import sys, misteluk; print(*sorted(sys.modules))"
+        loaded = subprocess.run([sys.executable, "-c", code], stdout=subprocess.PIPE, text=True, cwd=HERE.parent, check=True,
+                                timeout=60).stdout.split()
+        self.assertEqual({*later, "misteluk.engine.library"} & set(loaded), set())
         self.assertIn("misteluk.store", loaded)
 
     def test_each_name_is_there(self) -> None:

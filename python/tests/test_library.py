@@ -45,11 +45,14 @@ class InProcess(Case):
         """While another feeds: each answer is the held version's."""
         store = self.store(*(f"insert k s{it % 40} t{it % 70} {it} {it}" for it in range(2_000)))
         session, wrong, is_over = store.open(), [], threading.Event()
-        wanted = session.degrees().dict(), session.cores().dict(), session.predecessors("t3"), sorted(session.edges())
+
+        def answers():
+            return session.degrees().to_dict(), session.cores().to_dict(), session.predecessors("t3"), sorted(session.edges())
+        wanted = answers()
 
         def ask():
             while not is_over.is_set():
-                found = session.degrees().dict(), session.cores().dict(), session.predecessors("t3"), sorted(session.edges())
+                found = answers()
                 if found != wanted:
                     wrong.append(found)
         threads = [threading.Thread(target=ask) for _ in range(4)]
@@ -110,9 +113,9 @@ class InProcess(Case):
                  for it in ("degrees", "labels", "cores", "levels")]
         with ExitStack() as stack:
             counted = [stack.enter_context(it) for it in calls]
-            wanted = [it().dict() for it in asks]
+            wanted = [it().to_dict() for it in asks]
             for _ in range(2):
-                self.assertEqual([it().dict() for it in asks], wanted)
+                self.assertEqual([it().to_dict() for it in asks], wanted)
             self.assertEqual([it.call_count for it in counted], [2, 2, 2, 2])
             with mock.patch.object(asked, "MOST_KEPT", 60):  # (three vertices: 12 bytes, and 48 of degrees)
                 for it in (session.degrees, session.components, session.cores, session.components, session.degrees):

@@ -110,7 +110,7 @@ class Stores(Case):
         self.assertEqual(session.cores(), dict.fromkeys(OTHERS, 1))
         self.assertEqual(session.degrees(self.KIND)[LONG], Degree(1, 1, 4))
         self.assertEqual(list(session.degrees()), OTHERS)
-        self.assertEqual(session.degrees().top(1, by="weight")[0][0], OTHERS[-2])
+        self.assertEqual(session.degrees().top(1, by="weight_out")[0][0], OTHERS[-2])
         self.assertEqual(session.edge(self.KIND, AN_ID, "é"), Edge(5, 4, 4))
         self.assertEqual(session.get_edges([(self.KIND, IVANOV, WANG), (self.KIND, WANG, IVANOV)]), [Edge(1, 0, 0), None])
         self.assertEqual((session.predecessors(IVANOV), session.predecessors(WANG)), ({}, {IVANOV: Edge(1, 0, 0)}))
@@ -142,11 +142,6 @@ class Stores(Case):
             store.insert("k", pair[1], "t")
             store.commit()
             self.assertEqual(list(store.open().degrees()), [pair[0], "t", pair[1]])
-
-    def refused(self, word: type, told: str, call) -> None:
-        with self.assertRaises(word) as fault:
-            call()
-        self.assertIn(told, str(fault.exception))
 
     def test_errors(self):
         store = self.filled()

@@ -5,11 +5,10 @@ import sys
 import unittest
 from datetime import datetime, timezone
 
-from support import HERE, Case
+from support import HERE, Case, feed_of
 
 import misteluk
 from misteluk import Columns, Units
-from misteluk.feeds.opening import open_feed
 from misteluk.feeds.feed import Feed
 from misteluk.feeds import notations
 
@@ -85,7 +84,7 @@ class Notations(Case):
 
     def test_an_edge_list_in_utf_16(self):
         (self.room / "a.txt").write_bytes("# x\na b\n".encode("utf-16"))
-        feed = open_feed(str(self.room / "a.txt"), encoding="utf-16")
+        feed = feed_of(str(self.room / "a.txt"), encoding="utf-16")
         self.assertEqual(list(feed.rows), [(2, "link", "a", "b", "1", "0")])
 
 
@@ -97,7 +96,8 @@ class Advice(Case):
         return str(fault.exception)
 
     def test_it_is_by_what_stands_there(self):
-        self.assertIn("read by decimal=',' and weight_scale=100 (--decimal , --weight-scale 100)", self.told("a;b;12,50;1\n"))
+        told = "read by decimal=',' and Units(weight_scale=100) (--decimal , --weight-scale 100)"
+        self.assertIn(told, self.told("a;b;12,50;1\n"))
         self.assertIn("say its encoding, as encoding='cp1252'", self.told("M\u00fcller;b;1.5;1\n"))
         told = self.told("a;b;1;05.03.2024\n", units=Units(times="iso"))
         self.assertIn("read by what they are: dates='dd.mm.yyyy' (--dates)", told)
@@ -120,7 +120,7 @@ class Advice(Case):
         told = self.told("a;b;1,5;1\na;b;1,505;1\n")
         self.assertEqual(set(re.findall(r"weight_scale=\d+", told)), {"weight_scale=1000"})
         self.assertIn("read by decimal=',' (--decimal ,)", self.told("a;b;1,5;1\n", units=Units(weight_scale=100)))
-        with self.assertRaisesRegex(misteluk.errors.BadWeight, "weight_scale=1000 "):
+        with self.assertRaisesRegex(misteluk.errors.BadWeight, r"Units\(weight_scale=1000\) "):
             self.store().insert("k", "a", "b", 0.125)
 
     def none(self, word: str, *rows: str, **options) -> None:
@@ -147,7 +147,7 @@ class Advice(Case):
         self.assertIn("amount '5.005': a weight has", self.told("a;b;5.005;1\n", units=Units(weight_scale=100)))
         told = self.told("a;b;5,5;1\n", decimal=",")
         self.assertIn("amount '5,5': a weight is a whole number, of", told)
-        self.assertIn("weight_scale=100 (--weight-scale 100)", told)
+        self.assertIn("Units(weight_scale=100) (--weight-scale 100)", told)
         path = self.file("a.csv", "a;b;5,005;1\n")
         with self.assertRaisesRegex(misteluk.BadRows, "amount '5,005'"):
             list(self.store().follow(path, by="add", columns=ONE_TO_FOUR, decimal=",", units=Units(100), until_end=True))

@@ -6,12 +6,11 @@ import warnings
 from datetime import date
 from decimal import Decimal
 
-from support import Case, optional
+from support import Case, feed_of, optional
 
 import misteluk
 from misteluk import Columns, Edge, Units, errors
 from misteluk.feeds.objects import from_networkx
-from misteluk.feeds.opening import open_feed
 from misteluk.feeds import objects
 
 OF_TRANSFERS = Columns("from", "to", None, "amount", "when", "transfer")
@@ -62,7 +61,7 @@ class Graphs(Case):
         store.remove("rail", "b", "c")
         store.commit()
         with store.open() as session:
-            graph, wanted = session.to_networkx(), list(session.edges())
+            graph, wanted = session.edges().to_networkx(), list(session.edges())
         copy = misteluk.Store(**dates)
         self.addCleanup(self.let_go, copy)
         with self.assertWarnsRegex(errors.LeftOut, "1 node of the graph, 'c', has no edge: a store has the names of edges"):
@@ -132,10 +131,19 @@ class Frames(Case):
         session = store.open()
         when = datetime.datetime(2024, 5, 1, tzinfo=datetime.timezone.utc)
         self.assertEqual(session.edge("transfer", "ana", "funnel"), Edge(980, when, when))
-        degrees = session.degrees().frame()
+        degrees = session.degrees().to_pandas()
         self.assertEqual(degrees.loc["funnel"].to_dict(), {"out": 0, "into": 1, "weight_out": 0})
-        self.assertEqual(session.levels("ana").frame()["level"].to_dict(), {"ana": 0, "funnel": 1})
-        self.assertEqual(self.store().open().cores().frame().shape, (0, 1))
+        self.assertEqual(session.levels("ana").to_pandas()["level"].to_dict(), {"ana": 0, "funnel": 1})
+        self.assertEqual(self.store().open().cores().to_pandas().shape, (0, 1))
+
+    def test_a_table_that_a_user_makes(self):
+        """Its columns are the fields of its values, or what these are called."""
+        degrees = misteluk.Answer(ana=misteluk.Degree(1, 0, 9), ben=misteluk.Degree(0, 2, 3))
+        rows = {"ana": {"out": 1, "into": 0, "weight_out": 9}, "ben": {"out": 0, "into": 2, "weight_out": 3}}
+        self.assertEqual(degrees.to_pandas().to_dict("index"), rows)
+        self.assertEqual([name for name, _ in degrees.top(1, by="into")], ["ben"])
+        shares = misteluk.Answer({"ana": 5}, value="share")
+        self.assertEqual((shares.to_pandas()["share"].to_dict(), shares.to_numpy()["share"].tolist()), ({"ana": 5}, [5]))
 
     def test_missing_values_are_bad_rows(self):
         """As the same rows written as CSV are: row 1 of a frame is line 2 of its file."""
@@ -155,7 +163,7 @@ class Frames(Case):
 class Rows(Case):
     def rows(self, wanted: str, data, **options) -> None:
         """Whether what is given has these rows: a line each, its fields parted by a space."""
-        feed = open_feed(data, **options)
+        feed = feed_of(data, **options)
         self.assertEqual("\n".join(" ".join(map(str, it)) for it in feed.rows), wanted)
 
     def test_tuples(self):

@@ -50,7 +50,7 @@ OF_FEED = (("--set", "by", "set"), ("--add", "by", "add"), ("--format snap", "fo
 OF_PACE = (("--every 5m", "every", "5m"), ("--keep 14d", "keep", "14d"), ("--ahead 1h", "ahead", "1h"),
            ("--rejects r", "rejects", "r"), ("--rejects r", "skip_bad", True))
 OF_WINDOW = (("--of-kind k", "of_kind", "k"), ("--since 3", "since", "3"), ("--until 3", "until", "3"))
-OF_TABLES = (("--top 3", "top", 3), ("--top 0", "top", 0), ("--by weight", "column", "weight"))
+OF_TABLES = (("--top 3", "top", 3), ("--top 0", "top", 0), ("--by weight_out", "column", "weight_out"))
 OF_THEN = (("--save s", "save", "s"), ("--edges e", "edges", "e"), ("--levels a --levels b", "levels", ["a", "b"]),
            ("--interactive", "interactive", True), *OF_TABLES, *OF_WINDOW)
 GIVEN = {

@@ -311,6 +311,16 @@ class Help(Case):
         for wrong in ("TYPE_CHECKING", "NamedTuple(", "class Dict", "Optional ="):
             self.assertNotIn(f"\n    {wrong}", told)
         self.assertEqual(sorted(set(misteluk.__all__)), sorted(misteluk.__all__))
+        self.assertEqual([it for it in dir(misteluk) if it[0] != "_"], sorted([*misteluk.__all__, "errors"]))
+
+    def test_where_a_task_begins(self):
+        """What the help of the package names is there."""
+        calls = re.findall(r"`(\w+)\.(\w+)`", misteluk.__doc__ or "")
+        self.assertGreater(len(calls), 8)
+        self.assertEqual([it for it in calls if not hasattr(getattr(misteluk, it[0], misteluk), it[1])], [])
+        alone = set(re.findall(r"`([a-z_]+)`", misteluk.__doc__ or ""))
+        known = {*dir(misteluk), *dir(misteluk.Store), *dir(misteluk.Session), *dir(misteluk.Edges)}
+        self.assertEqual(alone - known, set())
 
     def test_options_have_names(self):
         """A load's options, for completion: those that a feed is opened by, in each of the calls that take them."""
@@ -319,11 +329,30 @@ class Help(Case):
         for call in (misteluk.survey, misteluk.Store.load, misteluk.Store.follow):
             told = inspect.signature(call).parameters
             self.assertLess(options, set(told))
+            self.assertNotIn('"', "".join(str(it.annotation) for it in told.values()))  # (as a prompt shows them)
             self.assertEqual([it for it in told.values() if it.kind == it.VAR_KEYWORD], [])
             self.assertEqual([it for it in options if f"`{it}" not in (call.__doc__ or "")], [])
         with misteluk.Store() as store, self.assertRaisesRegex(TypeError,
                                                                "no option 'colums': .* columns, format, delimiter, header"):
             store.load([("a", "b")], by="set", colums=None)
+
+    def test_what_stands_where_another_thing_belongs(self):
+        rows = [("a", "b")]
+        with misteluk.Store() as store:
+            for told, call in (
+                    ("columns are said as Columns(weight='amount'), and not by dict",
+                     lambda: store.load(rows, by="set", columns={"weight": "amount"})),
+                    ("columns are said as Columns(weight='amount'), and not by list",
+                     lambda: store.follow("x.csv", by="set", columns=["a", "b"])),
+                    ("units are said as Units(weight_scale=100, times='iso'), and not as 'iso'",
+                     lambda: misteluk.survey(rows, by="set", units="iso")),
+                    ("units are said as Units(", lambda: misteluk.Store(units="iso")),
+                    ("units are said as Units(", lambda: misteluk.Store.restore("x.gz", units=100)),
+                    ("weight_scale is a whole number, as 100 for cents, and not 'cents'",
+                     lambda: misteluk.Units(weight_scale="cents"))):
+                self.refused(TypeError, told, call)
+        self.assertEqual(repr(misteluk.survey([("a", ""), ("", "b"), ("a", "b")], by="set")),
+                         "<Survey of rows: 3 rows, 2 names, 1 kind, 1 edge in 1 block; 1 batch needs 1 blocks; 2 bad rows>")
 
     @unittest.skipUnless(IS_REPOSITORY, NO_REPOSITORY)
     def test_the_table_of_names(self):

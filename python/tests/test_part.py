@@ -41,7 +41,8 @@ def tables(session):
     """All tables, levels from the first name, and all edges."""
     degrees = session.degrees()
     asked = [degrees, session.components(), session.cores(), session.weights_in(), session.levels(next(iter(degrees)))]
-    return session.version, [list(it.items()) for it in asked], list(session.edges()), session.degrees(since="2024-03-15").dict()
+    late = session.degrees(since="2024-03-15").to_dict()
+    return session.version, [list(it.items()) for it in asked], list(session.edges()), late
 
 
 def alone(rows):

@@ -15,7 +15,7 @@ from serving import ServeCase
 from support import IS_SERVED, Case, optional
 
 import misteluk
-from misteluk import Session, Units
+from misteluk import Units
 from misteluk.values.arrays import ReadOnlyArray
 
 numpy, pandas, igraph, networkx = map(optional, ("numpy", "pandas", "igraph", "networkx"))
@@ -141,9 +141,7 @@ class ReadOnly(Asking, Case):
         """What a session is asked for is tried here, or is no answer."""
         names = {it for it in dir(self.store(*ROWS).open()) if not it.startswith("_")}
         tried = {it for it, *_ in calls("")}
-        self.assertEqual(names - tried - NO_ANSWERS, {it for it, package in (
-            ("a frame", pandas), ("to_networkx", networkx), ("to_igraph", igraph), ("to_scipy", optional("scipy")))
-            if not package})
+        self.assertEqual(names - tried - NO_ANSWERS, set())
 
     def test_answers_of_a_store(self):
         self.assertEqual(self.wrong(self.store(*ROWS, seats=3).open), [])
@@ -155,7 +153,7 @@ class ReadOnly(Asking, Case):
 
     def test_what_is_saved_and_begun_anew(self):
         """All answers are written to, and then the version is saved, restored, copied to a store that begins anew."""
-        but = "diff", "view", "to_networkx"  # (they name the version's number)
+        but = "diff", "view"  # (they name the version's number)
         store = self.store(*ROWS, seats=3)
         session, others = store.open(), self.store(*ROWS).open()
         wanted = self.all_told(asked_by(others), but)
@@ -235,7 +233,7 @@ class Arrays(Case):
                 session = session.store.open()
             with warnings.catch_warnings():
                 warnings.simplefilter("error")
-                for frame in (session.edges().frame(), session.degrees().frame()):
+                for frame in (session.edges().to_pandas(), session.degrees().to_pandas()):
                     name = next(it for it in frame if it.startswith("weight"))
                     wanted = [it * 2 for it in frame[name]]
                     frame[name] *= 2
@@ -245,7 +243,7 @@ class Arrays(Case):
                     frame.loc[frame[name] > 0, name] = 1
                     frame["more"] = frame[name] + 1
                     frame.drop_duplicates(inplace=True)
-                own = session.degrees().numpy()["out"]
+                own = session.degrees().to_numpy()["out"]
                 own += 1
 
 

@@ -123,7 +123,7 @@ class Faults(Case):
             with self.assertRaisesRegex(FileNotFoundError, f"'{self.path}'$"):
                 self.session.save(self.path)
         with files_of_at_most(20), self.assertRaisesRegex(OSError, "File too large: '.*/e.csv'$"):
-            self.session.to_csv(self.room / "e.csv")
+            self.session.edges().to_csv(self.room / "e.csv")
 
     def test_what_is_on_the_disk_first(self):
         """A file is synced once it is whole, and has its name behind that; then its folder is synced."""
@@ -137,8 +137,9 @@ class Faults(Case):
         def renamed(*names):
             done.append("renamed")
             rename(*names)
+        edges = self.session.edges()
         for path, write in ((self.room / "t.csv", self.session.save), (self.room / "t.csv.gz", self.session.save),
-                            (self.room / "e.csv", self.session.to_csv), (self.room / "e.csv.gz", self.session.to_csv)):
+                            (self.room / "e.csv", edges.to_csv), (self.room / "e.csv.gz", edges.to_csv)):
             with mock.patch.object(os, "fsync", synced), mock.patch.object(os, "replace", renamed):
                 write(path)
             self.assertEqual(done, [os.stat(path).st_size, "renamed", "a folder"])
@@ -219,6 +220,11 @@ class Faults(Case):
                 Store.restore(self.file("o.csv", text))
         self.assertRaises(FileNotFoundError, Store.restore, self.room / "none.csv")
         self.assertRaises(IsADirectoryError, Store.restore, self.room)
+
+    def test_a_saved_version_is_no_feed(self):
+        told = "no column 'source'; .* What Session.save wrote is restored by Store.restore"
+        with self.assertRaisesRegex(misteluk.errors.FeedFault, told):
+            self.store().load(self.path, by="set")
 
     def test_packed_by_another_name(self):
         """How a file is packed its beginning says."""

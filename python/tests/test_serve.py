@@ -4,6 +4,7 @@ import errno
 import json
 import socket
 import threading
+import time
 import unittest
 from unittest import mock
 
@@ -32,7 +33,7 @@ class Answers(ServeCase):
         self.assertEqual(dict(self.rows_of("/v1/weights_in?since=3")), session.weights_in(since=3))
         self.assertEqual({name: tuple(it) for name, *it in self.rows_of("/v1/degrees")},
                          {name: row(it) for name, it in session.degrees().items()})
-        self.assertEqual(self.rows_of("/v1/degrees?top=1&by=weight"), [("funnel", 1, 2, 3850)])
+        self.assertEqual(self.rows_of("/v1/degrees?top=1&by=weight_out"), [("funnel", 1, 2, 3850)])
         self.assertEqual(self.rows_of("/v1/edges"), [(*ends, *edge) for *ends, edge in session.edges()])
         self.assertEqual(self.rows_of("/v1/edges?top=1"), [("transfer", "funnel", "offshore", 3850, 3, 3)])
         self.assertEqual(self.rows_of("/v1/out_of?vertex=funnel"), [("transfer", "funnel", "offshore", 3850, 3, 3)])
@@ -210,6 +211,37 @@ class Feeds(ServeCase):
             self.assertEqual(self.post("/v1/feeder").status, 409)
             first.close()
             self.assertEqual(second.commit().updated, 1)
+
+    def test_a_client_hears_of_a_later_version(self):
+        self.serve()
+        with connect(self.server.url) as served, connect(self.server.url) as other:
+            other.add("k", "a", "b", 5, 1)
+            later = threading.Timer(0.3, other.commit)
+            begun = time.monotonic()
+            later.start()
+            self.assertEqual((served.stat(after=0).version, time.monotonic() - begun >= 0.3), (1, True))
+            later.join()
+            self.assertEqual((served.stat(after=0).edges, served.stat().version), (1, 1))
+            self.assertRaisesRegex(ValueError, "after is a whole number from 0", served.stat, after=-1)
+
+    def test_a_server_collects_by_itself(self):
+        self.fed()
+        with connect(self.server.url) as served, served.open() as session:
+            for weight in (1, 2):
+                served.add("owes", "boss", "ana", weight, 5)
+                served.commit()
+            done = served.collect()
+            self.assertEqual((done.floor, done.recycled, session.version), (1, 0, 1))
+            session.close()
+            self.assertEqual(served.collect().floor, 3)
+
+    def test_a_server_has_the_file(self):
+        self.serve()
+        with connect(self.server.url) as served:
+            served.add("k", "a", "b", 5, 1)
+            with self.assertRaisesRegex(misteluk.StoreError, "a server's store has its file there: .* Idempotency-Key"):
+                served.commit(producer="ann", sequence=1)
+            self.assertEqual(served.discard(), 1)
 
     def test_rows_are_checked_before_any_goes_in(self):
         self.serve()

@@ -9,14 +9,17 @@ import time
 import unittest
 
 from described import faults, wrong
-from serving import FEED, ServeCase
+from serving import FEED, HAS_PACKAGES, ServeCase
 
 from misteluk import Units
-from misteluk.serve import news, schemas
+from misteluk.serve import schemas
 from misteluk.serve.limits import ServerLimits
 from misteluk.serve.people import People
 from misteluk.serve.questions import QUESTIONS
 from misteluk.serve.tables import wants_csv
+
+if HAS_PACKAGES:
+    from misteluk.serve import news
 
 ODD = ('a "quoted" name', "a,b", "line\nbreak", "Иванов Пётр")
 ASKED = {"out_of": "vertex=ana", "into": "vertex=funnel", "levels": "source=ana", "within": "vertex=ana&hops=2"}
@@ -71,11 +74,11 @@ class Many(ServeCase):
         self.fed()
         session = self.post("/v1/sessions").json["session"]
         self.post("/v1/rows", {"rows": [["add", "transfer", "zed", "funnel", 7, 5]]})
-        questions = [{"question": "levels", "source": "ana"}, {"question": "degrees", "top": 2, "by": "weight"},
+        questions = [{"question": "levels", "source": "ana"}, {"question": "degrees", "top": 2, "by": "weight_out"},
                      {"question": "edge", "kind": "transfer", "source": "zed", "target": "funnel"},
                      {"question": "edges", "since": 2}, {"question": "path", "source": "zed", "target": "offshore"}]
-        alone = ["levels?source=ana", "degrees?top=2&by=weight", "edge?kind=transfer&source=zed&target=funnel", "edges?since=2",
-                 "path?source=zed&target=offshore"]
+        alone = ["levels?source=ana", "degrees?top=2&by=weight_out", "edge?kind=transfer&source=zed&target=funnel",
+                 "edges?since=2", "path?source=zed&target=offshore"]
         for more, version in (({}, 2), ({"session": session}, 1), ({"version": 1}, 1)):
             told = self.post("/v1/ask", {"questions": questions, **more}).json
             self.assertEqual(told["version"], version)

@@ -12,7 +12,7 @@ from array import array
 from contextlib import suppress
 from unittest import mock
 
-from serving import FEED, ServeCase
+from serving import FEED, FollowCase
 from support import as_soon_as
 
 import misteluk
@@ -20,7 +20,6 @@ from misteluk import Columns, Units, connect
 from misteluk.feeds import apart, parcels
 from misteluk.serve.server import Server
 
-ROWS = Columns(1, 2, weight=3, time=4)
 AS_ROWS = ("--add", "--source", "1", "--target", "2", "--weight", "3", "--time", "4", "--every", "10ms")
 
 
@@ -77,21 +76,9 @@ class Parcels(unittest.TestCase):
             self.assertEqual(self.received(data[:size]), (None, None), size)
 
 
-class Apart(ServeCase):
+class Apart(FollowCase):
     def stat(self):
         return self.ask("/v1/stat").json
-
-    def feed(self):
-        return self.stat()["feed"]
-
-    def follow(self, path, **options):
-        how = {"by": "add", "every": 0.01, "columns": ROWS, **options}
-        self.server.feeding.follow(self.server.store.follow(path, **how))
-        return self.server.feeding.readers.last
-
-    def append(self, path, text):
-        with open(path, "a") as file:
-            file.write(text)
 
     # What comes.
 
@@ -103,7 +90,7 @@ class Apart(ServeCase):
         path = self.file("feed.csv", "".join(f"{it}\n" for it in rows))
         self.serve(units=Units(weight_scale=100, times="iso"))
         self.follow(path, columns=Columns(1, 2, kind=5, weight=3, time=4), until_end=True)
-        as_soon_as(lambda: self.feed()["state"] == "ended")
+        as_soon_as(lambda: self.of_feed()["state"] == "ended")
         with self.server.store.open() as session:
             told = [(kind, source, target, str(edge.weight), edge.recent.day) for kind, source, target, edge in session.edges()]
         self.assertEqual(sorted(told), [("owes money", "Иванов Пётр", "bob", "0.25", 2),
@@ -115,7 +102,7 @@ class Apart(ServeCase):
         path = self.file("feed.csv", "".join(f"s{it},t,1,{it}\n" for it in range(100)))
         self.serve()
         self.follow(path, keep=9, batch=10, until_end=True)
-        as_soon_as(lambda: self.feed()["state"] == "ended")
+        as_soon_as(lambda: self.of_feed()["state"] == "ended")
         self.assertEqual(sorted(row[1] for row in self.rows_of("/v1/edges")), [f"s{it}" for it in range(90, 100)])
 
     def test_a_bad_row_in_the_middle(self):
@@ -123,8 +110,8 @@ class Apart(ServeCase):
         self.serve()
         with mock.patch("sys.stderr") as told:
             self.follow(path, batch=1_000)
-            as_soon_as(lambda: self.feed()["state"] == "failed")
-        self.assertEqual((self.feed()["error"], self.feed()["rows"]), ("BadRows", 4_499))
+            as_soon_as(lambda: self.of_feed()["state"] == "failed")
+        self.assertEqual((self.of_feed()["error"], self.of_feed()["rows"]), ("BadRows", 4_499))
         self.assertEqual(sum(row[3] for row in self.rows_of("/v1/edges")), 4_499)
         self.assertIn("feed.csv:4500", "".join(it.args[0] for it in told.write.call_args_list))
         self.assertEqual(self.post("/v1/rows", {"rows": FEED}).status, 200)
@@ -138,8 +125,8 @@ class Apart(ServeCase):
         self.addCleanup(self.server.stop)
         with mock.patch("sys.stderr") as told:
             self.follow(path, batch=1)
-            as_soon_as(lambda: self.feed()["state"] == "failed")
-        self.assertEqual((self.feed()["error"], self.feed()["rows"], self.stat()["edges"]), ("NamesFull", 2, 2))
+            as_soon_as(lambda: self.of_feed()["state"] == "failed")
+        self.assertEqual((self.of_feed()["error"], self.of_feed()["rows"], self.stat()["edges"]), ("NamesFull", 2, 2))
         self.assertIn("2 rows to line 2 are in, and 1 rows, lines 3 to 3, aren't",
                       "".join(it.args[0] for it in told.write.call_args_list))
 
@@ -163,9 +150,9 @@ class Apart(ServeCase):
         before = open_count(os.getpid())
         for _ in range(3):
             self.follow(path, until_end=True)
-            as_soon_as(lambda: self.feed()["state"] == "ended")
+            as_soon_as(lambda: self.of_feed()["state"] == "ended")
             as_soon_as(lambda: not self.server.feeding.readers.are_alive)
-        self.assertEqual((children(os.getpid()), self.feed()["rows"]), ([], 3))
+        self.assertEqual((children(os.getpid()), self.of_feed()["rows"]), ([], 3))
         as_soon_as(lambda: open_count(os.getpid()) <= before)
 
     def told_in(self, told):
@@ -185,15 +172,15 @@ class Apart(ServeCase):
                     as_soon_as(lambda: self.server.feeding.rate.total >= count)
                     os.kill(reading.process.pid, signal.SIGKILL)
                     as_soon_as(lambda: reading.killed == killed)
-                as_soon_as(lambda: self.feed()["rows"] == 200_000)
+                as_soon_as(lambda: self.of_feed()["rows"] == 200_000)
                 self.append(path, "ana,bob,5,1\n")
-                as_soon_as(lambda: self.feed()["rows"] == 200_001)
+                as_soon_as(lambda: self.of_feed()["rows"] == 200_001)
             said = re.findall(r"was ended by signal 9; (\d+) rows to line (\d+) are in, and another one reads on",
                               self.told_in(told))
             self.assertEqual([rows == line for rows, line in said], [True] * 3)
             self.assertTrue(all(0 < int(rows) < 200_000 for rows, _ in said))
             self.assertEqual(sum(row[3] for row in self.rows_of("/v1/edges")), 200_005)
-            self.assertEqual((self.feed()["state"], self.feed()["readers_killed"]), ("followed", 3))
+            self.assertEqual((self.of_feed()["state"], self.of_feed()["readers_killed"]), ("followed", 3))
             self.assertEqual(len(children(os.getpid())), turn + 1)
 
     def killed_at(self, text, more, said="", **options):
@@ -218,7 +205,7 @@ class Apart(ServeCase):
     def test_one_reads_on_to_a_bad_row(self):
         """It is told as of the feed that it is in, and not as of another form that the feed might have."""
         self.killed_at("a,b,1,1\nc,d,1,2\n", "e\n", "feed.csv:3")
-        self.assertEqual((self.feed()["error"], self.feed()["rows"]), ("BadRows", 2))
+        self.assertEqual((self.of_feed()["error"], self.of_feed()["rows"]), ("BadRows", 2))
 
     def test_one_reads_on_with_the_newest_time(self):
         """What is older than is kept goes out, though the newest row was read by the one before."""
@@ -237,9 +224,9 @@ class Apart(ServeCase):
             as_soon_as(lambda: server.feeding.state == "failed")
             # (the state is there before the message is)
             as_soon_as(lambda: "was cut to 8 bytes, and 16 were read of it" in self.told_in(told))
-        self.assertEqual((self.feed()["error"], self.feed()["readers_killed"]), ("FeedFault", 1))
-        self.assertIn("the feed was cut to 8 bytes, and 16 were read of it", self.feed()["reason"])
-        self.assertFalse(self.rooms_of(self.feed()["reason"]))
+        self.assertEqual((self.of_feed()["error"], self.of_feed()["readers_killed"]), ("FeedFault", 1))
+        self.assertIn("the feed was cut to 8 bytes, and 16 were read of it", self.of_feed()["reason"])
+        self.assertFalse(self.rooms_of(self.of_feed()["reason"]))
 
     def test_a_bad_row(self):
         """It ends the feed, and `stat` says which line it is, and why, but not where the file is; the server lives on."""
@@ -247,11 +234,11 @@ class Apart(ServeCase):
         server = self.serve()
         with mock.patch("sys.stderr") as told:
             self.follow(path)
-            as_soon_as(lambda: self.feed()["rows"] == 1)
+            as_soon_as(lambda: self.of_feed()["rows"] == 1)
             self.append(path, f"ana,cat,{self.room}/x,1\nana,dan,5,1\n")
             as_soon_as(lambda: server.feeding.state == "failed")
             as_soon_as(lambda: f"{path}:2: BadWeight" in self.told_in(told))
-        feed = self.feed()
+        feed = self.of_feed()
         self.assertEqual((feed["state"], feed["error"], feed["rows"]), ("failed", "BadRows", 1))
         self.assertRegex(feed["reason"], "(?s)the feed: 1 of [23] rows can't be taken, and .*line 2: BadWeight: amount '..'")
         self.assertFalse(self.rooms_of(feed["reason"]))
@@ -262,16 +249,16 @@ class Apart(ServeCase):
         path = self.file("feed.csv", "ana,bob,5,1\n")
         self.serve()
         self.follow(path)
-        as_soon_as(lambda: self.feed()["rows"] == 1)
-        self.assertNotIn("replaced", self.feed())
+        as_soon_as(lambda: self.of_feed()["rows"] == 1)
+        self.assertNotIn("replaced", self.of_feed())
         os.rename(path, f"{path}.1")
-        self.assertIs(self.feed()["replaced"], True)
+        self.assertIs(self.of_feed()["replaced"], True)
         self.file("feed.csv", "cat,dan,5,1\n")
-        self.assertIs(self.feed()["replaced"], True)
+        self.assertIs(self.of_feed()["replaced"], True)
         self.append(f"{path}.1", "eve,fay,5,1\n")
-        as_soon_as(lambda: self.feed()["rows"] == 2)
+        as_soon_as(lambda: self.of_feed()["rows"] == 2)
         os.rename(f"{path}.1", path)
-        self.assertNotIn("replaced", self.feed())
+        self.assertNotIn("replaced", self.of_feed())
 
     def test_some_that_are_killed_in_vain(self):
         """After three of which nothing went in the feed ends; the server goes on."""
@@ -279,14 +266,15 @@ class Apart(ServeCase):
         self.serve()
         with mock.patch("sys.stderr") as told:
             reading = self.follow(path)
-            as_soon_as(lambda: self.feed()["rows"] == 1)
+            as_soon_as(lambda: self.of_feed()["rows"] == 1)
             for killed in range(4):
                 as_soon_as(lambda: reading.killed == killed)
                 os.kill(reading.process.pid, signal.SIGKILL)
-            as_soon_as(lambda: self.feed()["state"] == "failed")
-        self.assertEqual((self.feed()["error"], self.feed()["rows"], self.feed()["readers_killed"]), ("ReaderEnded", 1, 4))
-        self.assertEqual(self.feed()["reason"], "the process that reads the feed was ended by signal 9; 1 rows to line 1 are in, "
-                                                "and what is behind them is not")
+            as_soon_as(lambda: self.of_feed()["state"] == "failed")
+        found = self.of_feed()
+        self.assertEqual((found["error"], found["rows"], found["readers_killed"]), ("ReaderEnded", 1, 4))
+        self.assertEqual(found["reason"], "the process that reads the feed was ended by signal 9; 1 rows to line 1 are in, and "
+                                          "what is behind them is not")
         self.assertIn("was ended by signal 9; 1 rows to line 1 are in, and what is behind them is not", self.told_in(told))
         self.assertEqual(self.post("/v1/rows", {"rows": FEED}).status, 200)
         self.assertIsNone(parent_of(reading.process.pid))
@@ -337,7 +325,7 @@ class Apart(ServeCase):
         with mock.patch.object(apart, "_CODE", "import sys; sys.exit(3)"), mock.patch("sys.stderr") as told:
             self.serve()
             self.follow(self.file("feed.csv", "ana,bob,5,1\n"))
-            as_soon_as(lambda: self.feed()["state"] == "failed")
+            as_soon_as(lambda: self.of_feed()["state"] == "failed")
         self.assertIn("ended with status 3; 0 rows to line 0 are in", "".join(it.args[0] for it in told.write.call_args_list))
 
     def test_a_pipe(self):
@@ -348,11 +336,11 @@ class Apart(ServeCase):
             with mock.patch("sys.stderr") as told:
                 reading = self.follow(writer.stdout)
                 writer.stdout.close()
-                as_soon_as(lambda: self.feed()["rows"] > 3)
+                as_soon_as(lambda: self.of_feed()["rows"] > 3)
                 os.kill(reading.process.pid, signal.SIGKILL)
-                as_soon_as(lambda: self.feed()["state"] == "failed")
+                as_soon_as(lambda: self.of_feed()["state"] == "failed")
             self.assertEqual(writer.wait(60), 1)
-        rows = self.feed()["rows"]
+        rows = self.of_feed()["rows"]
         self.assertIn(f"{rows} rows to line {rows} are in, and what it had read behind them is lost", self.told_in(told))
 
 

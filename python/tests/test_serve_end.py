@@ -10,7 +10,7 @@ import time
 import unittest
 from unittest import mock
 
-from serving import FEED, ServeCase
+from serving import FEED, ProcessCase, ServeCase
 from support import HERE, as_soon_as
 
 from misteluk import Edge, Store, connect
@@ -37,22 +37,13 @@ sys.exit(main(["serve", *sys.argv[2:]]))
 """
 
 
-class Signals(ServeCase):
+class Signals(ProcessCase):
     """`misteluk serve --save` as a process."""
-
-    def setUp(self):
-        super().setUp()
-        self.path, self.saved = str(self.room / "socket"), str(self.room / "graph.gz")
 
     def begin(self, *words):
         done = self.command("--listen", f"unix:{self.path}", "--save", self.saved, "--save-every", "1000", *words)
         self.assertIn("serves", done.stdout.readline())
         return done
-
-    def client(self):
-        store = connect(f"unix:{self.path}")
-        self.addCleanup(store.close)
-        return store
 
     def in_file(self):
         found = Store.restore(self.saved)

@@ -6,17 +6,19 @@ import unittest
 from contextlib import redirect_stderr
 from unittest import mock
 
-from serving import FEED, ServeCase
+from serving import FEED, HAS_PACKAGES, NO_PACKAGES, ServeCase
 from support import as_soon_as
 
 import misteluk
 from misteluk.engine.protocol import Denied
 from misteluk.feeds.apart import Apart
-from misteluk.serve import faults
 from misteluk.serve.board import Full
-from misteluk.serve.flow import WORD
 from misteluk.serve.keeping import Keeper
 from misteluk.serve.limits import TooLarge
+
+if HAS_PACKAGES:
+    from misteluk.serve import faults
+    from misteluk.serve.flow import WORD
 
 FAULTS = (KeyError("rows"), MemoryError(), RecursionError("too deep"), AttributeError("no such thing"), SystemExit(3))
 
@@ -34,6 +36,7 @@ TOLD = ((Denied("NoVertex"), 404, "NoVertex"), (Denied("NoKind"), 404, "NoKind")
         (ValueError("no such field"), 400, "BadRequest"), (KeyError("rows"), 400, "BadRequest"))
 
 
+@unittest.skipUnless(HAS_PACKAGES, NO_PACKAGES)
 class Told(unittest.TestCase):
     def test_each_fault(self):
         """A client knows by `denied` what its engine denied, and by `stat` how many blocks there were."""

@@ -8,33 +8,24 @@ import unittest
 from contextlib import redirect_stderr
 from unittest import mock
 
-from serving import ServeCase
+from serving import ProcessCase, ServeCase
 from support import as_soon_as
 
 import misteluk
 from misteluk import Edge, SessionClosed, Store, Units, connect
-from misteluk.errors import Busy, SaveFault
+from misteluk.errors import Busy
 from misteluk.serve.feeding import FEEDERS
 from misteluk.serve.keeping import Keeper
 from misteluk.serve.limits import ServerLimits
 
 
-class Kept(ServeCase):
+class Kept(ProcessCase):
     """`misteluk serve --save` as a process."""
-
-    def setUp(self):
-        super().setUp()
-        self.path, self.saved = str(self.room / "socket"), str(self.room / "graph.gz")
 
     def begin(self, every="0.05"):
         done = self.command("--listen", f"unix:{self.path}", "--save", self.saved, "--save-every", every)
         self.assertIn("serves", done.stdout.readline())
         return done
-
-    def client(self):
-        store = connect(f"unix:{self.path}")
-        self.addCleanup(store.close)
-        return store
 
     def test_a_server_that_is_killed(self):
         """The next one begins with what was saved. What came in behind that isn't there, and each client is told so once."""
@@ -42,7 +33,7 @@ class Kept(ServeCase):
         session = store.open()
         store.add("k", "Иванов Пётр", "b", 5, 1)
         store.commit()
-        as_soon_as(lambda: told(store)["saved"]["version"] == 1)
+        as_soon_as(lambda: self.stat(store)["saved"]["version"] == 1)
         done.send_signal(signal.SIGSTOP)  # (so that it saves nothing more)
         reading = Store.restore(self.saved)
         self.addCleanup(reading.close)
@@ -52,7 +43,7 @@ class Kept(ServeCase):
         store.add("k", "a", "b", 7, 2)
         self.assertRaises(misteluk.errors.NoServer, store.commit)
         self.begin("1000")
-        saved = told(self.client())["saved"]  # (the file has what this one began with)
+        saved = self.stat(self.client())["saved"]  # (the file has what this one began with)
         self.assertEqual((saved["version"], saved["seconds"] < 60), (0, True))
         self.assertRaisesRegex(SessionClosed, r"began anew, with what was saved at 2\d{3}-.*: what came in later isn't there",
                                store.commit)
@@ -64,19 +55,19 @@ class Kept(ServeCase):
     def test_an_analyst_is_told(self):
         """Also one that opens a session anew, whose versions count anew by then; and a browser by what `stat` says."""
         done, analyst = self.begin("1000"), self.client()
-        name = told(analyst)["server"]
+        name = self.stat(analyst)["server"]
         done.kill()
         done.wait()
         self.begin()
         self.assertRaisesRegex(SessionClosed, "this server began anew, without an edge", analyst.open)
         self.assertEqual(analyst.open().version, 0)
-        self.assertNotEqual(told(analyst)["server"], name)
+        self.assertNotEqual(self.stat(analyst)["server"], name)
 
     def test_the_end_saves(self):
         done, store = self.begin("1000"), self.client()
         store.add("k", "a", "b", 5, 1)
         store.commit()
-        self.assertEqual(told(store)["saved"], {"version": None, "seconds": None})  # (there is no file yet)
+        self.assertEqual(self.stat(store)["saved"], {"version": None, "seconds": None})  # (there is no file yet)
         done.send_signal(signal.SIGTERM)
         done.communicate(timeout=60)
         self.assertEqual(done.returncode, 0)
@@ -92,7 +83,7 @@ class Kept(ServeCase):
             sessions.append(store.open())
             store.add("k", "a", f"b{at}", 5, 1)
             store.commit()
-        as_soon_as(lambda: told(store)["saved"]["version"] == 20)
+        as_soon_as(lambda: self.stat(store)["saved"]["version"] == 20)
         done.send_signal(signal.SIGTERM)
         done.communicate(timeout=60)
         self.assertEqual(done.returncode, 0)
@@ -110,7 +101,7 @@ class Kept(ServeCase):
             done.stdin.write(rows)
             done.stdin.flush()
             store = self.client()
-            as_soon_as(lambda: told(store)["feed"]["rows"] == 1)
+            as_soon_as(lambda: self.stat(store)["feed"]["rows"] == 1)
             done.send_signal(signal.SIGTERM)
             done.communicate(timeout=60)
         found = Store.restore(self.saved)
@@ -224,10 +215,6 @@ class Lost(ServeCase):
             as_soon_as(lambda: not self.server.board._last.asked)
             as_soon_as(lambda: not self.server._runner.server_state.connections)
             told_of.assert_not_called()
-
-
-def told(store):
-    return store._engine.talk.call("GET", "/v1/stat").json()
 
 
 if __name__ == "__main__":

@@ -1,7 +1,6 @@
 """kill -9 of an analyst, of those who feed a server, and of the server, amid what they do: what others see, and what is in."""
 import http.client
 import os
-import re
 import socket
 import subprocess
 import sys
@@ -9,10 +8,10 @@ import threading
 import unittest
 from unittest import mock
 
-from serving import ServeCase
+from serving import ProcessCase
 from support import HERE, as_soon_as
 
-from misteluk import Edge, SessionClosed, connect
+from misteluk import Edge, SessionClosed
 from misteluk.errors import NoServer
 
 # A server that answers no batch and no post: it writes a word when one is applied, and one when a version with rows is saved.
@@ -41,11 +40,7 @@ main(["serve", *sys.argv[1:]])
 HEAD = "POST /v1/rows HTTP/1.1\r\nHost: localhost\r\nContent-Type: text/csv\r\nContent-Length: {}\r\n\r\n"
 
 
-class Killed(ServeCase):
-    def setUp(self):
-        super().setUp()
-        self.path, self.saved = str(self.room / "socket"), str(self.room / "graph.gz")
-
+class Killed(ProcessCase):
     def python(self, code, *words, **how):
         """A process of Python's, which is killed at the end."""
         done = subprocess.Popen([sys.executable, "-c", code, *words], stdout=subprocess.PIPE, text=True,
@@ -54,22 +49,10 @@ class Killed(ServeCase):
         self.addCleanup(done.kill)
         return done
 
-    def kill(self, process):
-        process.kill()
-        self.assertEqual(process.wait(), -9)
-
     def begin(self, *words, **how):
         done = self.command(*words, "--listen", f"unix:{self.path}", **how)
         self.assertIn("serves", done.stdout.readline())
         return done
-
-    def client(self):
-        store = connect(f"unix:{self.path}")
-        self.addCleanup(store.close)
-        return store
-
-    def stat(self, store):
-        return store._engine.talk.call("GET", "/v1/stat").json()
 
     # The server, while it has a batch or a post.
 
@@ -89,7 +72,7 @@ class Killed(ServeCase):
         thread.start()
         while server.stdout.readline() != f"{word}\n":
             pass
-        self.kill(server)
+        self.end(server)
         then()
         thread.join()
         return met[0] if met else None
@@ -115,7 +98,7 @@ class Killed(ServeCase):
             store.commit()
             with store.open() as session:
                 self.assertEqual(list(session.edges()), [("k", "a", "b", Edge(5, 1, 1))])
-            self.kill(server)
+            self.end(server)
             if not edges:
                 self.assertFalse(os.path.exists(self.saved))
 
@@ -156,7 +139,7 @@ class Killed(ServeCase):
             server = self.begin("--save", self.saved)
             told = self.stat(self.client())
             self.assertEqual((told["version"], told["edges"]), (0, edges))
-            self.kill(server)
+            self.end(server)
 
     def test_what_curl_says(self):
         code = f"import os; os.execvp('curl', ['curl', '-s', '--unix-socket', {self.path!r}, 'http://localhost/v1/rows', '-H', " \
@@ -181,8 +164,8 @@ class Killed(ServeCase):
         """One of which a part came isn't in, and one that is whole is, though nobody reads the answer."""
         self.begin()
         store = self.client()
-        self.kill(self.posting(20))
-        self.kill(self.posting(100))
+        self.end(self.posting(20))
+        self.end(self.posting(100))
         as_soon_as(lambda: self.stat(store)["version"] == 1)
         with store.open() as session:
             self.assertEqual(sorted(it[2] for it in session.edges()), ["b", "c"])
@@ -196,7 +179,7 @@ class Killed(ServeCase):
                 "t = s.open(); s.add('k', 'a', 'c', 7, 1); print('fed', flush=True); sys.stdin.read()")
         feeder, store = self.python(code, stdin=subprocess.PIPE), self.client()
         self.assertEqual(feeder.stdout.readline(), "fed\n")
-        self.kill(feeder)
+        self.end(feeder)
         as_soon_as(lambda: [it["clients"] for it in self.stat(store)["held"]] == [0])
         as_soon_as(lambda: self.stat(store)["feed"]["state"] == "open")
         store.add("k", "x", "y")
@@ -218,12 +201,12 @@ class Killed(ServeCase):
             self.assertEqual(writer.stdout.readline(), "wrote\n")
             as_soon_as(lambda: self.stat(store)["edges"] == 1)
             self.assertEqual(self.stat(store)["feed"]["state"], "followed")
-            self.kill(writer)
+            self.end(writer)
             as_soon_as(lambda: self.stat(store)["feed"]["state"] == "ended")
             self.assertEqual(self.stat(store)["feed"].get("half_line"), half)
             with store.open() as session:
                 self.assertEqual([edge.weight for *_, edge in session.edges()], weights)
-            self.kill(server)
+            self.end(server)
 
     # Those who ask.
 
@@ -244,7 +227,7 @@ class Killed(ServeCase):
         store.commit()
         held = [(it["version"], it["clients"]) for it in self.stat(store)["held"]]
         self.assertEqual(held, [(version, 1), (version + 1, 0)])
-        self.kill(analyst)
+        self.end(analyst)
         as_soon_as(lambda: [it["version"] for it in self.stat(store)["held"]] == [version + 1])
         as_soon_as(lambda: len(os.listdir(f"/proc/{server.pid}/fd")) <= before)
 

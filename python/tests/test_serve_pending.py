@@ -3,7 +3,7 @@ do with it, so that nothing is applied twice, or after it was dropped."""
 import unittest
 from unittest import mock
 
-from serving import ServeCase
+from serving import ProcessCase
 
 import misteluk
 from misteluk import Edge, SessionClosed, connect, errors
@@ -13,20 +13,11 @@ from misteluk.serve.limits import ServerLimits
 UNKNOWN = "Whether the batch that was sent is in isn't known"
 
 
-class Pending(ServeCase):
+class Pending(ProcessCase):
     def begin(self):
         done = self.command("--listen", f"unix:{self.room}/socket")
         self.assertIn("serves", done.stdout.readline())
         return done
-
-    def kill(self, process):
-        process.kill()
-        self.assertEqual(process.wait(), -9)
-
-    def client(self):
-        store = connect(f"unix:{self.room}/socket")
-        self.addCleanup(store.close)
-        return store
 
     def edges(self, store):
         with store.open() as session:
@@ -41,7 +32,7 @@ class Pending(ServeCase):
             if has_seat:
                 store.commit()
             store.add("t", "x", "y", 9, time=9)
-            self.kill(server)
+            self.end(server)
             fault = self.raised(NoServer, store.commit)
             self.assertRegex(str(fault), "doesn't answer.*No batch was sent, and what is pending stays so")
             self.assertEqual(("isn't known" in str(fault), fault.is_sent), (False, False))
@@ -51,7 +42,7 @@ class Pending(ServeCase):
             store.commit()
             self.assertEqual(self.edges(store), [])
             store.close()
-            self.kill(server)
+            self.end(server)
 
     def raised(self, kind, call):
         with self.assertRaises(kind) as met:
@@ -83,7 +74,7 @@ class Pending(ServeCase):
             self.assertEqual(store.commit().inserted, len(edges))  # (the next commit tells what wasn't told)
             self.assertEqual(self.edges(store), edges)
             store.close()
-            self.kill(server)
+            self.end(server)
 
     def test_discard_while_nobody_knows(self):
         """It drops nothing, and says so, as long as the server doesn't answer, and once more where another one does."""
@@ -91,7 +82,7 @@ class Pending(ServeCase):
         store.add("k", "a", "b", 5, 1)
         self.unanswered(store, "applied")
         store.add("k", "a", "c", 7, 1)
-        self.kill(server)
+        self.end(server)
         told = f"{UNKNOWN}.*what is pending stays so"
         self.assertRaisesRegex(NoServer, told, store.discard)
         self.assertRaisesRegex(NoServer, told, store.discard)
@@ -108,7 +99,7 @@ class Pending(ServeCase):
         store.add("k", "a", "b", 5, 1)
         self.unanswered(store, "applied")
         store.add("k", "a", "c", 7, 1)
-        self.kill(server)
+        self.end(server)
         fault = self.raised(Uncommitted, store.close)
         self.assertRegex(str(fault), "2 operations were pending.*The first 1 were sent, and whether they are in isn't known; "
                                      "the others aren't applied")
@@ -125,7 +116,7 @@ class Pending(ServeCase):
             store.add("k", "a", "b", 5, 1)
             self.unanswered(store, "applied")
             store.add("k", "a", "c", 7, 1)
-            self.kill(server)
+            self.end(server)
             raise KeyError
 
     # A batch that is too long.

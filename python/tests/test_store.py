@@ -6,7 +6,7 @@ from unittest import mock
 from support import Case, row
 
 import misteluk
-from misteluk import Commit, Degree, Edge, Stat, Store, Units
+from misteluk import Commit, Degree, Edge, Stat, Store, Units, walks
 
 FUNNEL = ("insert transfer ana funnel 980 1", "insert transfer ben funnel 950 1", "insert transfer cyd funnel 990 2",
           "insert transfer dan funnel 970 2", "insert transfer funnel offshore 3850 3")
@@ -48,11 +48,30 @@ class Stores(Case):
         degrees = self.store(*FUNNEL).open().degrees("transfer")
         funnel, ana, cyd = ("funnel", Degree(1, 4, 3850)), ("ana", Degree(1, 0, 980)), ("cyd", Degree(1, 0, 990))
         self.assertEqual((degrees.top(2), degrees.top(2, by="out")), ([ana, funnel],) * 2)
-        self.assertEqual(degrees.top(2, by="weight"), [funnel, cyd])
-        self.assertEqual((degrees.top(1, by="incoming"), degrees.top(1, by="into")), ([funnel],) * 2)
-        self.refused(ValueError, "by is 'out', 'into' or 'weight'", lambda: degrees.top(1, by="name"))
+        self.assertEqual(degrees.top(2, by="weight_out"), [funnel, cyd])
+        self.assertEqual(degrees.top(1, by="into"), [funnel])
+        self.refused(ValueError, "by is a column, 'out' or 'into' or 'weight_out', and not 'weight'",
+                     lambda: degrees.top(1, by="weight"))
+        received = self.store(*FUNNEL).open().weights_in()
+        self.assertEqual((received.top(1), received.top(1, by="weight_in")), ([("funnel", 3890)],) * 2)
+        self.refused(ValueError, "by is a column, 'weight_in', and not 'out'", lambda: received.top(1, by="out"))
         self.assertEqual(misteluk.Answer(a=1, b=2).top(), [("b", 2), ("a", 1)])
         self.assertEqual(misteluk.Answer().top(by="weight"), [])
+
+    def test_what_a_compaction_tells(self):
+        self.assertRegex(str(self.store(*FUNNEL).compact()),
+                         r"^began again at version 1: 5 edges and 6 vertices, in 5 blocks and \d+\.\d s$")
+
+    def test_a_step_that_no_edge_makes(self):
+        edges = self.store(*FUNNEL).open().out_edges("ben")
+        self.assertEqual(walks.step(edges, "funnel")[:3], ("transfer", "ben", "funnel"))
+        self.refused(misteluk.StoreError, "no edge leads to 'ana' from where it was reached", lambda: walks.step(edges, "ana"))
+
+    def test_a_vertex_where_a_kind_stands(self):
+        session = self.store(*FUNNEL).open()
+        told = "NoKind: edges(kind='ana'). 'ana' is a vertex: out_edges, in_edges and neighbors take one"
+        self.refused(misteluk.errors.NoKind, told, lambda: session.edges("ana"))
+        self.refused(misteluk.errors.NoKind, "degrees(kind='zed', since=1). The version", lambda: session.degrees("zed", since=1))
 
     def test_the_largest_components(self):
         components = self.store(*FUNNEL, "insert owns zed yan 1 9", "insert owns loner loner 1 9").open().components()
@@ -262,11 +281,6 @@ class Stores(Case):
         session = other.open()
         self.refused(ValueError, "is another store's", lambda: store.compact(session))
         self.assertEqual(session.degrees(), {})
-
-    def refused(self, word: type, told: str, call) -> None:
-        with self.assertRaises(word) as fault:
-            call()
-        self.assertIn(told, str(fault.exception))
 
     def test_wrong_operations_are_told_at_once(self):
         store = self.store()

@@ -155,7 +155,7 @@ class Ties(Case):
         with store.open() as session:
             degrees = session.degrees()
             self.assertEqual(list(degrees), ["a", "x", "b", "c", "y", "d", "z", "e"])
-            for by, wanted in (("out", "cabdexyz"), ("into", "xzyabcde"), ("weight", "eabcdxyz")):
+            for by, wanted in (("out", "cabdexyz"), ("into", "xzyabcde"), ("weight_out", "eabcdxyz")):
                 self.assertEqual("".join(name for name, _ in degrees.top(8, by)), wanted, by)
                 self.assertEqual("".join(name for name, _ in degrees.top(3, by)), wanted[:3], by)
             self.assertEqual(session.components().top(2), [("a", 5), ("d", 3)])

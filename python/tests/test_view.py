@@ -127,8 +127,8 @@ class Views(Case):
         inside = [{key: edge for key, edge in it.items() if key[1] in shown and key[2] in shown} for it in edges]
         states = {key: state_of(inside[0].get(key), inside[1].get(key)) for key in {**inside[0], **inside[1]}}
         reader = Reader(found.html)
-        self.assertEqual(found.counts, {it: list(states.values()).count(it) for it in (GONE, NEW, CHANGED, KEPT)})
-        self.assertEqual([reader.texts[it].split()[0] for it in found.counts], list(map(str, found.counts.values())))
+        self.assertEqual(found.counts(), {it: list(states.values()).count(it) for it in (GONE, NEW, CHANGED, KEPT)})
+        self.assertEqual([reader.texts[it].split()[0] for it in found.counts()], list(map(str, found.counts().values())))
         has_kinds = len({key[0] for key in states}) > 1
         wanted = []
         for (kind, source, target), state in states.items():
@@ -204,7 +204,7 @@ class Views(Case):
         for it in ("<title>T &amp; T</title>", "Before: then", "After: now", "last touched until 2024-05-07.", "times are in UTC",
                    'title="before: 2024-05-06"'):
             self.assertIn(it, found.html)
-        self.assertEqual(found.counts[CHANGED], 1)
+        self.assertEqual(found.counts()[CHANGED], 1)
 
     def test_floats(self):
         store = self.store(units=Units(weight_scale=100, decimals="float"))
@@ -227,13 +227,18 @@ class Views(Case):
         self.assertRaises(misteluk.NoVertex, view, first, "zed")
         self.assertRaises(misteluk.errors.NoKind, view, first, "funnel", kind="transfers")
         self.assertRaises(misteluk.errors.BadWindow, view, first, "funnel", since=2, until=1)
-        self.assertEqual(view(first, "zed", 1, beside=last).counts, {GONE: 0, NEW: 1, CHANGED: 0, KEPT: 0})
+        self.assertEqual(view(first, "zed", 1, beside=last).counts(), {GONE: 0, NEW: 1, CHANGED: 0, KEPT: 0})
         for wrong in ({"hops": 0}, {"most": 0}, {"most": 301}):
             self.assertRaises(ValueError, view, first, "funnel", **wrong)
         with Store(units=Units(weight_scale=100)) as other:
             other.insert("transfer", "funnel", "x", 1)
             other.commit()
-            self.assertRaisesRegex(ValueError, "other units", view, first, "funnel", beside=other.open())
+            self.assertRaisesRegex(ValueError, "other units: .*weight_scale=1, .*, and .*weight_scale=100, ", view, first,
+                                   "funnel", beside=other.open())
+        with Store(units=Units(rounding="half-even")) as other:
+            other.insert("transfer", "ana", "funnel", 980.4, 1)
+            other.commit()
+            self.assertEqual(view(first, "ana", 1, beside=other.open()).counts(), {GONE: 1, NEW: 0, CHANGED: 0, KEPT: 1})
         last.close()
         self.assertRaises(misteluk.SessionClosed, view, first, "funnel", beside=last)
 
@@ -241,8 +246,8 @@ class Views(Case):
         """The first session's stands before the other's, whatever their versions are."""
         first, last = self.pair(BEFORE, AFTER)
         other = self.store("insert transfer ana funnel 980 1").open()
-        self.assertEqual(view(last, "funnel", 1, beside=other).counts, {GONE: 2, NEW: 0, CHANGED: 0, KEPT: 1})
-        self.assertEqual(view(other, "funnel", 1, beside=last).counts, {GONE: 0, NEW: 2, CHANGED: 0, KEPT: 1})
+        self.assertEqual(view(last, "funnel", 1, beside=other).counts(), {GONE: 2, NEW: 0, CHANGED: 0, KEPT: 1})
+        self.assertEqual(view(other, "funnel", 1, beside=last).counts(), {GONE: 0, NEW: 2, CHANGED: 0, KEPT: 1})
 
     def test_limits(self):
         """Of a star the heaviest are drawn, and the page says what it leaves out."""

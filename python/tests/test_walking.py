@@ -8,7 +8,7 @@ from graphs import NAMES, Play
 from support import Case, optional
 
 import misteluk
-from misteluk import Edge, Neighbor, Session
+from misteluk import Edge, Edges, Neighbor, Session
 from misteluk.engine.held import LibraryVersion
 from misteluk.engine.protocol import Arrays
 from misteluk.values import records
@@ -88,7 +88,7 @@ def of_networkx(session, graph, name, window):
     wanted = networkx.MultiDiGraph(version=session.version)
     wanted.add_nodes_from(graph.names)
     wanted.add_edges_from((it[1], it[2], it[0], {"kind": it[0], **edge._asdict()}) for it, edge in graph.view(*window))
-    given = session.to_networkx(*window)
+    given = session.edges(*window).to_networkx(version=session.version)
     differ = [] if networkx.utils.graphs_equal(given, wanted) and list(given) == list(graph.names) else ["to_networkx"]
     lengths = dict(networkx.single_source_shortest_path_length(wanted, name))
     for other in graph.names:
@@ -165,7 +165,7 @@ class Walks(Case):
         self.planted("edges of a path", Session, "path", lambda walk: walk and walk[:-1])
         self.planted("no step of a path", Session, "out_edges", lambda found: found[:0])
         if networkx:
-            self.planted("to_networkx", Session, "to_networkx", lambda it: it.reverse(), beside=self.beside_networkx)
+            self.planted("to_networkx", Edges, "to_networkx", lambda it: it.reverse(), beside=self.beside_networkx)
 
 
 if __name__ == "__main__":

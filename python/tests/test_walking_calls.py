@@ -121,7 +121,7 @@ class Calls(Case):
         self.assertEqual(str(session.successors("a")["b"].weight), "2.15")
         self.assertEqual(list(map(str, session.weights_in(until="2024-03-04").values())), ["0.00", "0.10"])
         self.assertEqual(session.path("a", "b", since="2024-03-06"), None)
-        session.to_csv(self.room / "edges.csv")
+        session.edges().to_csv(self.room / "edges.csv")
         self.assertEqual((self.room / "edges.csv").read_text().splitlines(), [
             "kind,source,target,weight,first,recent",
             "k,a,b,0.10,2024-03-04T12:00:00+00:00,2024-03-04T12:00:00+00:00",
@@ -137,7 +137,7 @@ class Calls(Case):
             store.insert(kind, source, target, int(weight), int(time))
         store.commit()
         session, path = store.open(), self.room / "edges.csv"
-        self.assertEqual(session.to_csv(path), len(wanted))
+        self.assertEqual(session.edges().to_csv(path), len(wanted))
         with open(path, encoding="utf-8", newline="") as file:
             header, *found = csv.reader(file)
         self.assertEqual((header, sorted(found)), (["kind", "source", "target", "weight", "first", "recent"], sorted(wanted)))
@@ -149,19 +149,19 @@ class Calls(Case):
         at = 1
         with warnings.catch_warnings():
             warnings.simplefilter("ignore")  # (an interrupt as the file is closed leaves that to Python)
-            while at_line(at, lambda: session.to_csv(path)):
+            while at_line(at, lambda: session.edges().to_csv(path)):
                 self.assertTrue(path.read_bytes() == before and os.listdir(self.room) == ["edges.csv"], at)
                 at += 7
         self.assertGreater(at, 30)
         with self.assertRaises(OSError):
-            session.to_csv(self.room / "nowhere" / "x")
+            session.edges().to_csv(self.room / "nowhere" / "x")
 
     @unittest.skipUnless(pandas, "pandas is not there")
     def test_a_frame(self):
-        frame = self.store("insert k a b 3 1", "add k a b 4 5").open().edges().frame()
+        frame = self.store("insert k a b 3 1", "add k a b 4 5").open().edges().to_pandas()
         self.assertEqual(list(frame.columns), ["kind", "source", "target", "weight", "first", "recent"])
         self.assertEqual(frame.values.tolist(), [["k", "a", "b", 7, 1, 5]])
-        self.assertEqual(len(self.store("insert k a b 1 1").open().edges(since=2).frame()), 0)
+        self.assertEqual(len(self.store("insert k a b 1 1").open().edges(since=2).to_pandas()), 0)
 
     def wrong_lines(self, session, call, step=3):
         """At which of every so many lines an interrupt of the call makes it, or all edges, go wrong afterwards, three of them at

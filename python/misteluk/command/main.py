@@ -24,7 +24,7 @@ from ..feeds.surveys import Survey, survey
 from ..values.names import shown
 from .options import columns_of, make_parser
 from .questions import Question, all_lines
-from ..page.view import view
+from ..page.view import View, view
 from ..saving import is_saved, size_of
 from ..session import Session
 from ..store import Store
@@ -105,7 +105,7 @@ def do_then(words: argparse.Namespace, store: Store[Any, Any]) -> None:
         if words.save:
             print(session.save(words.save), flush=True)
         if words.edges:
-            count = session.to_csv(words.edges, **window(words))
+            count = session.edges(**window(words)).to_csv(words.edges)
             print(f"{words.edges}: {count} edge{'s' * (count != 1)} of version {session.version}", flush=True)
         for line in answer(words, session):
             print(line)
@@ -153,26 +153,26 @@ def run_doctor(words: argparse.Namespace) -> int:
 
 def run_view(words: argparse.Namespace) -> int:
     around.check(words)
-    if words.by is None:
-        return run_around_saved(words)
-    found = read(words)
-    with Store(blocks=words.blocks) as store:
-        page = around.draw(words, store, found, window(words))
+    page = around_saved(words) if words.by is None else around_rows(words)
     page.save(words.output)
     print(f"{words.output}: {page}")
     return 0
 
 
-def run_around_saved(words: argparse.Namespace) -> int:
+def around_rows(words: argparse.Namespace) -> View:
+    """The page of versions that a feed's rows make."""
+    found = read(words)
+    with Store(blocks=words.blocks) as store:
+        return around.draw(words, store, found, window(words))
+
+
+def around_saved(words: argparse.Namespace) -> View:
     """The page of the version that a file has which --save wrote."""
     if words.at is not None or words.at_line is not None:
         raise ValueError("a saved file has one version: --at and --at-line are for the rows of a feed")
     with Store.restore(words.file, blocks=words.blocks) as store:
-        page = view(store.open(), words.around, words.hops, most=words.most, title=words.title, labels=("the saved version", ""),
+        return view(store.open(), words.around, words.hops, most=words.most, title=words.title, labels=("the saved version", ""),
                     **window(words))
-    page.save(words.output)
-    print(f"{words.output}: {page}")
-    return 0
 
 
 @contextmanager

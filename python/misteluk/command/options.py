@@ -7,7 +7,7 @@ from typing import Any, Optional
 from . import around, file, serve
 
 from ..values import records
-from ..values.answers import BY_COLUMN
+from ..values.answers import OF_DEGREES
 from ..version import VERSION
 from ..feeds.feed import Column, Columns
 from ..feeds.notations import DECIMALS, TIMES
@@ -100,7 +100,7 @@ def add_window(parser: argparse.ArgumentParser) -> None:
 
 def add_table_options(group: Any) -> None:
     group.add_argument("--top", type=rows, default=10, metavar="N", help="how many rows of a table are printed (10)")
-    group.add_argument("--by", choices=tuple(BY_COLUMN), default="out", dest="column",
+    group.add_argument("--by", choices=OF_DEGREES, default="out", dest="column",
                        help="by which column the greatest degrees are (out)")
 
 

@@ -2,6 +2,7 @@
 from __future__ import annotations
 
 import shlex
+from collections import Counter
 from typing import Any, Dict, Iterator, List, NamedTuple, Optional, Tuple
 
 from ..values.answers import Edge, Neighbor
@@ -72,37 +73,25 @@ def _table(it: Question, session: Session[Any, Any], top: int, column: str, wind
 
 def _components(it: Question, session: Session[Any, Any], top: int, _: str, window: Dict[str, Any]) -> Dict[str, Any]:
     labels = session.components(**_window(it, window))
-    sizes: Dict[str, int] = {}
-    for label in labels.values():
-        sizes[label] = sizes.get(label, 0) + 1
-    most = sorted(sizes.items(), key=lambda it: -it[1])[:top]
-    return {"components": len(sizes), "names": len(labels), "most": [{"name": name, "size": size} for name, size in most]}
+    most = [{"name": name, "size": size} for name, size in labels.top(top)]
+    return {"components": len(labels.sizes()), "names": len(labels), "most": most}
 
 
 def _levels(it: Question, session: Session[Any, Any], _: int, __: str, window: Dict[str, Any]) -> Dict[str, Any]:
     levels = session.levels(it.names[0], **_window(it, window))
-    counts = [0] * (max(levels.values()) + 1)
-    for level in levels.values():
-        counts[level] += 1
-    return {"reached": len(levels), "levels": counts}
+    counts = Counter(levels.values())
+    return {"reached": len(levels), "levels": [counts[level] for level in range(max(counts) + 1)]}
 
 
 def _beside(it: Question, session: Session[Any, Any], top: int, _: str, window: Dict[str, Any]) -> Dict[str, Any]:
     edges: Dict[str, Edge[Any, Any]] = getattr(session, CALLS[it.what])(it.names[0], **_window(it, window))
-    most = sorted(edges.items(), key=_weight, reverse=True)[:top]
-    return {"edges": len(edges), "most": [{"name": name, **edge._asdict()} for name, edge in most]}
-
-
-def _weight(row: Tuple[str, Edge[Any, Any]]) -> Any:
-    return row[1].weight
+    weights: Dict[str, Any] = {name: edge.weight for name, edge in edges.items()}
+    most = sorted(weights, key=weights.__getitem__, reverse=True)[:top]
+    return {"edges": len(edges), "most": [{"name": name, **edges[name]._asdict()} for name in most]}
 
 
 def _weight_either_way(row: Tuple[str, Neighbor[Any, Any]]) -> Any:
     return sum(edge.weight for edge in (row[1].out, row[1].into) if edge)
-
-
-def _weight_of_edge(row: Tuple[str, str, str, Edge[Any, Any]]) -> Any:
-    return row[3].weight
 
 
 def _path(it: Question, session: Session[Any, Any], _: int, __: str, window: Dict[str, Any]) -> Dict[str, Any]:
@@ -133,9 +122,8 @@ def _within(it: Question, session: Session[Any, Any], top: int, _: str, window: 
 
 def _edges(it: Question, session: Session[Any, Any], top: int, _: str, window: Dict[str, Any]) -> Dict[str, Any]:
     """The edges with the greatest weights."""
-    found = list(session.edges(**_window(it, window)))
-    most = sorted(found, key=_weight_of_edge, reverse=True)[:top]
-    rows = [{"kind": kind, "source": source, "target": target, **edge._asdict()} for kind, source, target, edge in most]
+    found = session.edges(**_window(it, window))
+    rows = [{"kind": kind, "source": source, "target": target, **edge._asdict()} for kind, source, target, edge in found.top(top)]
     return {"edges": len(found), "most": rows}
 
 

@@ -14,7 +14,7 @@ from .finding import next_step
 from .guard import Notes, Owned
 from .interface import Code, Library
 from .operations import INSERT, REMOVE, Numbered, Operations
-from .protocol import A_FEW, Denied
+from .protocol import Denied
 from ..errors import LibraryNotFound, NoMemory, StoreError
 from ..values.answers import Commit
 from ..values.fields import numpy_for
@@ -69,7 +69,7 @@ def address(column: "array[int]") -> int:
 
 def texts_of(text: "array[int]", ends: "array[int]") -> List[str]:
     """Names that stand one after another. Behind the last one may be room that was not used."""
-    count, numpy = len(ends), numpy_for(len(ends), A_FEW)
+    count, numpy = len(ends), numpy_for(len(ends))
     if numpy is None:
         told = text.tobytes().decode("ascii")
         return list(map(told.__getitem__, map(slice, chain((0,), ends), ends)))

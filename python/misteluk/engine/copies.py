@@ -10,7 +10,7 @@ from array import array
 from typing import Any, Iterator, List, NamedTuple
 
 from .operations import INSERT, REMOVE, Dictionary, Numbered
-from .protocol import A_FEW, WHOLE, Arrays, Held
+from .protocol import WHOLE, Arrays, Held
 from ..values.fields import numpy_for
 
 
@@ -44,7 +44,7 @@ def operations_of(content: Content) -> Numbered:
     is_begun = len(content.kinds) > 1
     for kind in range(len(content.kinds)) if is_begun else ():
         _put_loop(found, kind, 0)
-    numpy = numpy_for(content.edges.size, A_FEW)
+    numpy = numpy_for(content.edges.size)
     if numpy is None:
         _put(found, content.edges, _items(content, is_begun))
     else:

@@ -273,9 +273,12 @@ class LibraryEngine:
 
     def _hold(self, opening: Opening, slot: int) -> LibraryVersion:
         version = LibraryVersion(self, opening, slot)
-        version.begin()
+        self._let_begin(version)
         self._versions = [*(it for it in self._versions if it() is not None), weakref.ref(version)]
         return version
+
+    def _let_begin(self, version: LibraryVersion) -> None:
+        version.begin()
 
     def _last(self, opening: Opening) -> LibraryVersion:
         """The last version, to be read here."""

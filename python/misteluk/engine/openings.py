@@ -4,7 +4,7 @@ from __future__ import annotations
 from .calling import MOST_AT_ONCE
 from .library import LibraryEngine
 from .operations import ADD, EXPIRE, REMOVE, Numbered
-from .protocol import A_FEW, Engine
+from .protocol import Engine
 from ..values import records
 from ..values.fields import numpy_for
 from ..values.limits import MOST_WEIGHT
@@ -36,7 +36,7 @@ def as_batches(engine: Engine, operations: Numbered) -> int:
 def may_overflow(operations: Numbered, most: int) -> bool:
     """Whether a weight may be greater in size than this, or what amounts make of one: whether it isn't seen at once that none
     is."""
-    adds, numpy = operations.has(ADD), numpy_for(len(operations.codes), A_FEW)
+    adds, numpy = operations.has(ADD), numpy_for(len(operations.codes))
     if numpy is None:
         few = [abs(it) for it in operations.weights]
         return max(few, default=0) > most or adds and sum(few) > most

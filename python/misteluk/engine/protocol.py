@@ -36,10 +36,8 @@ class Scope(NamedTuple):
 
 
 WHOLE = Scope()
-# From how many edges on numpy is quicker than loops, once it is loaded.
-A_FEW = 500
 # What the engine in this process is called.
-LIBRARY = "library"
+LIBRARY, SERVED = "library", "served"
 
 
 class Arrays(NamedTuple):
@@ -92,7 +90,7 @@ class Arrays(NamedTuple):
     def by_source(self, count: int) -> "Optional[array[int]]":
         """Where the edges of each source begin, which stand source by source, of so many, and behind them their end; `None` where
         numpy isn't loaded, for which this alone would be no reason: a search takes a microsecond."""
-        numpy = numpy_for(self.size, A_FEW) if "numpy" in sys.modules else None
+        numpy = numpy_for(self.size) if "numpy" in sys.modules else None
         if numpy is None:
             return None
         begins = numpy.zeros(count + 1, dtype="uint32")

@@ -7,7 +7,6 @@ from operator import add
 from typing import Any, Dict, Set, Tuple
 
 from .operations import REMOVE, Numbered
-from .protocol import A_FEW
 from ..values import records
 from ..values.fields import numpy_for
 
@@ -19,7 +18,7 @@ class Room:
     """How many blocks the edges take behind each operation of a copy, in a store that is collected behind each batch."""
 
     def __init__(self, operations: Numbered) -> None:
-        numpy = numpy_for(len(operations.codes), A_FEW)
+        numpy = numpy_for(len(operations.codes))
         self.behind = used_behind(operations) if numpy is None else used_at_once(numpy, operations)
 
     def needed(self, batch: int) -> int:

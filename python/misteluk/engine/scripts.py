@@ -5,7 +5,6 @@ from array import array
 from typing import Any, List, Optional
 
 from .operations import COMMANDS, FORMS, INSERT, REMOVE, Dictionary, Numbered, row_of
-from .protocol import A_FEW
 from ..values import records
 from ..values.fields import Fields, data_of, numpy_for
 
@@ -33,7 +32,7 @@ class Records:
 
 def operations_in(text: str) -> Numbered:
     """The operations of a script's whole lines."""
-    numpy = numpy_for(len(text), A_FEW)
+    numpy = numpy_for(len(text))
     found = None if numpy is None else _operations_at_once(numpy, text)
     if found is not None:
         return found

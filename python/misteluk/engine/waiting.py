@@ -5,7 +5,6 @@ of before; the desk answers nothing, so that version is held beforehand, and who
 """
 from __future__ import annotations
 
-import weakref
 from typing import Any, Callable, NamedTuple, Optional
 
 from .calling import LibraryFlight, check
@@ -92,11 +91,6 @@ class WaitingEngine(LibraryEngine):
         opening, ready = self._settle(), self._ready
         return self._stat(opening) if ready is None else ready.stat
 
-    def _hold(self, opening: Opening, slot: int) -> LibraryVersion:
+    def _let_begin(self, version: LibraryVersion) -> None:
         ready = self._ready
-        if ready is None:
-            return super()._hold(opening, slot)
-        version = LibraryVersion(self, opening, slot)
-        version.begin_with(ready.before)
-        self._versions = [*(it for it in self._versions if it() is not None), weakref.ref(version)]
-        return version
+        version.begin() if ready is None else version.begin_with(ready.before)

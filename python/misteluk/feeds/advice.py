@@ -71,7 +71,8 @@ def advice_for(fault: records.Fault, units: Units[Any, Any] = PLAIN) -> Optional
 
 
 def _by_scale(scale: int) -> str:
-    return f"Amounts with decimals are taken by a store with weight_scale={scale} (--weight-scale {scale})" if scale else ""
+    told = f"Amounts with decimals are taken by a store with Units(weight_scale={scale}) (--weight-scale {scale})"
+    return told if scale else ""
 
 
 def advise(faults: Iterable[Refused], how: Reading) -> None:
@@ -111,7 +112,7 @@ def _of_weight(value: str, how: Reading, scale: int) -> str:
         return "Amounts as 12,50 are read by decimal=',' (--decimal ,)"
     if how.units.scale != 1 or not _scale_for(number):
         return ""
-    return f"Amounts as 12,50 are read by decimal=',' and weight_scale={scale} (--decimal , --weight-scale {scale})"
+    return f"Amounts as 12,50 are read by decimal=',' and Units(weight_scale={scale}) (--decimal , --weight-scale {scale})"
 
 
 def _of_time(value: str, how: Reading) -> str:

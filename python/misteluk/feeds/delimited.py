@@ -180,6 +180,7 @@ def _place(feed: str, column: Optional[Column], names: Sequence[str]) -> Optiona
             raise ValueError(f"columns are numbered from 1, and there is no column {column}")
         return None if column is None else column - 1
     if column not in names:
-        raise FeedFault(f"{feed}: no column {column!r}; the header has {', '.join(map(repr, names))}. Say which columns to take: "
-                        "--source, --target, --weight, --time, or Columns(..)")
+        advice = ("What Session.save wrote is restored by Store.restore" if list(names[:2]) == ["open", "0"] else
+                  "Say which columns to take: --source, --target, --weight, --time, or Columns(..)")
+        raise FeedFault(f"{feed}: no column {column!r}; the header has {', '.join(map(repr, names))}. {advice}")
     return names.index(column)

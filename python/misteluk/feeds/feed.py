@@ -50,7 +50,7 @@ class Came(Sequence[Sequence[str]]):
     def __getitem__(self, at: int) -> Sequence[str]: ...
 
     @overload
-    def __getitem__(self, at: slice) -> "Came": ...
+    def __getitem__(self, at: slice) -> Came: ...
 
     def __getitem__(self, at: Any) -> Any:
         if isinstance(at, slice):
@@ -72,7 +72,7 @@ class Block(NamedTuple):
     # The rows as they came; none where they came as they are here.
     came: Sequence[Sequence[str]] = ()
 
-    def plain(self) -> "Block":
+    def plain(self) -> Block:
         """The same with a text for each field."""
         return Block._make(it.texts if isinstance(it, FieldColumn) else it for it in self)
 

@@ -38,7 +38,7 @@ def _is_interrupted() -> bool:
 class Following(Iterator[Followed]):
     """The steps of a feed that is followed: an iterator that `Store.follow` returns, and whose steps are commits (`Followed`).
 
-    >>> count = session.to_csv("roads.csv")
+    >>> count = session.edges().to_csv("roads.csv")
     >>> columns = Columns(kind="kind", weight="weight", time="recent")
     >>> following = store.follow("roads.csv", by="set", columns=columns)
 
@@ -46,7 +46,7 @@ class Following(Iterator[Followed]):
     twice: the next step goes on from there. A step that another thread than the main one takes can't be interrupted, and is made
     there."""
 
-    def __init__(self, store: "Store[Any, Any]", incoming: Incoming, count: Count, recipe: Recipe,
+    def __init__(self, store: Store[Any, Any], incoming: Incoming, count: Count, recipe: Recipe,
                  progress: Optional[bool], rejects: Optional[Keeps] = None) -> None:
         self.store, self.name, self._ledger = store, incoming.name, store._ledger
         self._incoming, self._source, self._count, self._pace = incoming, incoming.source, count, recipe.pace
@@ -280,7 +280,7 @@ class Following(Iterator[Followed]):
         return self._before(first, right, BadRows(self.name, count.bad, count.rows, count.faults, count.fault_counts,
                                                   stands=f"those before line {first} are in, and none behind it"))
 
-    def _kept(self, right: Block, before: "Tuple[int, Optional[Rejected]]") -> Block:
+    def _kept(self, right: Block, before: Tuple[int, Optional[Rejected]]) -> Block:
         """Has the rows kept that were skipped. Where they can't be, the feed ends before the first of them, with as many skipped
         as before."""
         lines = None if self._count.bin is None else self._count.bin.emptied()
@@ -341,7 +341,7 @@ class Following(Iterator[Followed]):
             return NoAnswer(f"{fault}; {rows} were sent, and the {self._in} rows before them are in")
         return type(fault)(f"{fault}; {stands}")
 
-    def __enter__(self) -> "Following":
+    def __enter__(self) -> Following:
         return self
 
     def __exit__(self, kind: Optional[Type[BaseException]], fault: Optional[BaseException],
@@ -352,7 +352,7 @@ class Following(Iterator[Followed]):
         return f"<Following of {self.name}: {self._in} rows in, {len(self._lines)} pending>"
 
 
-def follow(store: "Store[Any, Any]", feed: Union[Path, Opened], *, by: str, every: Span = 1.0, keep: Optional[Span] = None,
+def follow(store: Store[Any, Any], feed: Union[Path, Opened], *, by: str, every: Span = 1.0, keep: Optional[Span] = None,
            ahead: Optional[Span] = None, batch: int = records.MOST_OPERATIONS, until_end: bool = False,
            skip_bad: bool = False, rejects: Optional[Path] = None, progress: Optional[bool] = None, **read_as: Any) -> Following:
     """Follows a feed into a store. See `Store.follow`. One row with a time far ahead would remove all that is older, and a late
@@ -383,7 +383,7 @@ def follow(store: "Store[Any, Any]", feed: Union[Path, Opened], *, by: str, ever
     return following
 
 
-def following_of(store: "Store[Any, Any]", feed: Union[Path, Opened], recipe: Recipe, terms: Terms,
+def following_of(store: Store[Any, Any], feed: Union[Path, Opened], recipe: Recipe, terms: Terms,
                  progress: Optional[bool], rejects: Optional[Keeps] = None) -> Following:
     """A feed that is followed into a store by a recipe. See `follow`."""
     how = recipe.pace.how

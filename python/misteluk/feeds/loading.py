@@ -11,7 +11,7 @@ from .opening import ReadAs
 from .parts import Part
 from .progress import Progress
 from .rejects import Rejected
-from .surveys import Survey, survey
+from .surveys import Survey, surveyed
 from ..engine.calling import MOST_AT_ONCE
 from ..engine.openings import as_batches, may_open
 from ..engine.operations import Operations
@@ -80,16 +80,16 @@ class Loaded:
                                         "seconds": f"{self.seconds:.1f}", **done})
 
 
-def load(store: "Store[Any, Any]", data: Any, *, by: str, batch: Optional[int] = None, collect: bool = True,
+def load(store: Store[Any, Any], data: Any, *, by: str, batch: Optional[int] = None, collect: bool = True,
          skip_bad: bool = False, rejects: Optional[Path] = None, progress: Optional[bool] = None, **read_as: Any) -> Loaded:
     """Loads a feed into a store. See `Store.load`."""
     if isinstance(data, Survey) and data.by != by:
         raise ValueError(f"the survey was made to {data.by}, and the load is to {by}")
     if isinstance(data, Survey) and rejects is not None:
         raise ValueError("a survey's rows were read already: say rejects= where it is made")
-    terms = store._ledger.terms_for(ReadAs.of(read_as).units_given)
-    found = data if isinstance(data, Survey) else survey(data, by=by, batch=batch, progress=progress, terms=terms,
-                                                             rejects=rejects, **read_as)
+    how = ReadAs.of(read_as)
+    terms = store._ledger.terms_for(how.units_given)
+    found = data if isinstance(data, Survey) else surveyed(data, how, terms, by, batch, progress, rejects)
     skip_bad = skip_bad or rejects is not None
     told = Progress(f"loading {found.feed}", found.rows - found.bad, progress)
     sent = time.monotonic()
@@ -105,17 +105,17 @@ def load(store: "Store[Any, Any]", data: Any, *, by: str, batch: Optional[int] =
     return Loaded(done, found, found._records(collect, (done or NOTHING).batches), found.seconds + sending, sending)
 
 
-def most_joined(store: "Store[Any, Any]") -> int:
+def most_joined(store: Store[Any, Any]) -> int:
     """Of how many batches of 4,096 one is made at most."""
     return MOST_AT_ONCE // records.MOST_OPERATIONS if store._engine.name == LIBRARY else 1
 
 
-def load_in_steps(store: "Store[Any, Any]", found: Survey, *, collect: bool = True, skip_bad: bool = False) -> Iterator[Commit]:
+def load_in_steps(store: Store[Any, Any], found: Survey, *, collect: bool = True, skip_bad: bool = False) -> Iterator[Commit]:
     """Loads a survey in its own batches: what each did is given before the next is applied: sessions can be opened between."""
     return (receipt for _, receipt in _steps(store, found, collect, skip_bad, 1))
 
 
-def _steps(store: "Store[Any, Any]", found: Survey, collect: bool, skip_bad: bool, most: int) -> Iterator[Tuple[Part, Commit]]:
+def _steps(store: Store[Any, Any], found: Survey, collect: bool, skip_bad: bool, most: int) -> Iterator[Tuple[Part, Commit]]:
     """Applies a survey's batches, up to so many as one, and gives each with what it did."""
     check(found, skip_bad=skip_bad, limits=store._engine.limits, most_blocks=store._engine.most_blocks)
     store._ledger.settle()
@@ -145,7 +145,7 @@ def _steps(store: "Store[Any, Any]", found: Survey, collect: bool, skip_bad: boo
         at += count
 
 
-def _opened(store: "Store[Any, Any]", found: Survey) -> Optional[Tuple[Part, Commit]]:
+def _opened(store: Store[Any, Any], found: Survey) -> Optional[Tuple[Part, Commit]]:
     """Has an empty store open with a whole feed in one step, as far as nobody can tell that from batches, and gives what they
     would have done. Where it doesn't, batches say why."""
     whole = found.parts.whole
@@ -156,7 +156,7 @@ def _opened(store: "Store[Any, Any]", found: Survey) -> Optional[Tuple[Part, Com
         return None
 
 
-def _apply(store: "Store[Any, Any]", found: Survey, part: Part, at: int, collect: bool, opens: int = 0) -> Commit:
+def _apply(store: Store[Any, Any], found: Survey, part: Part, at: int, collect: bool, opens: int = 0) -> Commit:
     """Applies one batch of a feed, that of this number or one that begins with it, or has a store open with the first ones; a
     refusal says which lines are not in."""
     try:

@@ -5,12 +5,12 @@ import os
 from collections.abc import Iterable, Mapping
 from dataclasses import dataclass, fields, replace
 from inspect import Parameter, cleandoc, signature
-from typing import Any, Callable, Optional, Tuple, TypeVar
+from typing import Any, Callable, Optional, TypeVar
 
 from .advice import Reading
 from .feed import STANDARD_INPUT, Columns, Feed, Path, matrix_market, open_text, snap
 from .notations import Notation
-from ..values.units import ISO, PLAIN, Units
+from ..values.units import ISO, Units, units_given
 
 F = TypeVar("F", bound=Callable[..., Any])
 FORMATS = ("delimited", "snap", "matrix")
@@ -48,6 +48,11 @@ class ReadAs:
     names: str = "plain"
     units: Optional[Units[Any, Any]] = None
 
+    def __post_init__(self) -> None:
+        if not isinstance(self.columns, Columns):
+            raise TypeError(f"columns are said as Columns(weight='amount'), and not by {type(self.columns).__name__}")
+        units_given(self.units)
+
     @classmethod
     def of(cls, given: Mapping[str, Any]) -> "ReadAs":
         """These options. Raises `TypeError`, which lists all, where there is no such option."""
@@ -65,7 +70,7 @@ class ReadAs:
     @property
     def units_given(self) -> Units[Any, Any]:
         """The units that are given."""
-        units = self.units or PLAIN
+        units = units_given(self.units)
         return replace(units, times=ISO) if self.dates else units
 
     def reading(self, data: Any, units: Units[Any, Any]) -> Reading:
@@ -107,12 +112,6 @@ def reads(call: F) -> F:
     call.__doc__ = f"{cleandoc(call.__doc__ or '')}\n\n{cleandoc(ReadAs.__doc__ or '')}"
     call.__signature__ = own.replace(parameters=[*named, *options])  # type: ignore[attr-defined]
     return call
-
-
-@reads
-def open_feed(data: Any, **read_as: Any) -> Feed:
-    """The feed of what is given. See `ReadAs`, whose options it takes."""
-    return ReadAs.of(read_as).feed(data)
 
 
 def _of_object(data: Any, columns: Columns, both_ways: bool) -> Feed:

@@ -95,7 +95,7 @@ class FeedMark(NamedTuple):
     turn: int = 0
 
     @staticmethod
-    def of(path: str, found: os.stat_result, begin: int = 0) -> "FeedMark":
+    def of(path: str, found: os.stat_result, begin: int = 0) -> FeedMark:
         return FeedMark(os.path.realpath(path), (found.st_dev, found.st_ino), begin)
 
     def written(self, place: FeedPlace) -> str:
@@ -103,7 +103,7 @@ class FeedMark(NamedTuple):
         return json.dumps(self._replace(place=place))
 
     @staticmethod
-    def read(text: str) -> "FeedMark":
+    def read(text: str) -> FeedMark:
         path, (device, number), begin, place, *turn = json.loads(text)
         return FeedMark(path, (device, number), begin, FeedPlace(*place), *turn)
 
@@ -113,7 +113,7 @@ class FeedMark(NamedTuple):
         found = sorted(map(FeedMark.read, feeds.values()), key=lambda it: it.turn)
         return [it for it in found if it.path == self.path or (it.file, it.begin) == (self.file, self.begin)]
 
-    def in_turn(self, known: "Sequence[FeedMark]", has: "Callable[[FeedMark], bool]", after: int = 0) -> "FeedMark":
+    def in_turn(self, known: Sequence[FeedMark], has: Callable[[FeedMark], bool], after: int = 0) -> FeedMark:
         """This file, with how far it is in by what is known: not at all where it is a new one, which comes behind the last one of
         its path, and the one of a turn. One that was followed before that is a new one too where it doesn't have what was read:
         the system gives the number of a file that was removed to another."""

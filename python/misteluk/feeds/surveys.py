@@ -6,7 +6,7 @@ from array import array
 from dataclasses import dataclass
 from functools import cached_property, partial
 from itertools import compress
-from typing import Any, Dict, Iterable, List, Optional, Sequence, Tuple
+from typing import TYPE_CHECKING, Any, Dict, Iterable, List, Optional, Sequence, Tuple
 
 from .advice import advise, as_written
 from .feed import ROWS_AT_ONCE, Block, Path, came_of, part_of, rows_of, turned
@@ -17,13 +17,15 @@ from .rejects import Bin, Rejected, Rejects, rejected
 from .spans import shown_length
 from .terms import Terms
 from ..engine.operations import COMMANDS as OF_COMMANDS, Dictionary, Numbered
-from ..engine.protocol import A_FEW
 from ..errors import BadTime, Place, Refused
 from ..values import records
 from ..values.columns import FieldColumn
 from ..values.fields import numpy_for
-from ..values.units import Units
 
+if TYPE_CHECKING:
+    from typing_extensions import Unpack
+
+    from ..options import By, ReadOptions
 
 COMMANDS = {"set": "i", "add": "a"}
 # How many faults are told of, beside the first of each rule.
@@ -147,7 +149,8 @@ class Survey:
         return f"{self.feed}: {', '.join(told)} in {blocks}; {batches} {self.needed} blocks"
 
     def __repr__(self) -> str:
-        return f"<Survey of {self}>"
+        bad = f"; {self.bad} bad row{'s' * (self.bad != 1)}" * bool(self.bad)
+        return f"<Survey of {self}{bad}>"
 
 
 class Count:
@@ -197,10 +200,10 @@ class Count:
             self._fill(block.lines, (*columns, weights, times))
         return columns is not None
 
-    def _numbered(self, block: Block) -> "Optional[List[array[int]]]":
+    def _numbered(self, block: Block) -> Optional[List[array[int]]]:
         """The numbers of rows' kinds, sources and targets, where each is a name."""
         kinds, names = len(self.of_kinds.numbers), len(self.of_names.numbers)
-        found: "List[array[int]]" = []
+        found: List[array[int]] = []
         for dictionary, column, is_kind in ((self.of_kinds, block.kinds, True), (self.of_names, block.sources, False),
                                             (self.of_names, block.targets, False)):
             numbers_of = partial(self._numbers_of, dictionary, is_kind)
@@ -213,7 +216,7 @@ class Count:
             found.append(numbers)
         return found
 
-    def _numbers_of(self, dictionary: Dictionary, is_kind: bool, texts: Sequence[str]) -> "Optional[array[int]]":
+    def _numbers_of(self, dictionary: Dictionary, is_kind: bool, texts: Sequence[str]) -> Optional[array[int]]:
         """The numbers of names, or kinds, where each is one."""
         before = len(dictionary.numbers)
         found = dictionary.column(texts)
@@ -269,7 +272,7 @@ class Count:
             self.bin.put(block.lines[at], reason, came[at], came.form)  # type: ignore[union-attr]
         self.last_bad = rejected(block.lines[wrong[-1]], reasons[-1], came[wrong[-1]], came.form.sign)
 
-    def write_wrong(self, rejects: "Optional[Rejects]") -> None:
+    def write_wrong(self, rejects: Optional[Rejects]) -> None:
         """Writes the rows that were kept since the last time."""
         lines = None if self.bin is None else self.bin.emptied()
         if lines is not None and rejects is not None:
@@ -296,7 +299,7 @@ class Count:
 
 def _at_once(lines: Sequence[int]) -> Iterable[int]:
     """Lines that follow one another as an array, which an array takes at once, where numpy is worth it."""
-    numpy = numpy_for(len(lines), A_FEW) if isinstance(lines, range) else None
+    numpy = numpy_for(len(lines)) if isinstance(lines, range) else None
     return lines if numpy is None else array("q", numpy.arange(lines[0], lines[-1] + 1, dtype="int64").tobytes())
 
 
@@ -309,8 +312,8 @@ def must_be_way(by: str, batch: int) -> None:
 
 
 @reads
-def survey(data: Any, *, by: str, batch: Optional[int] = None, progress: Optional[bool] = None,
-           terms: Optional[Terms] = None, rejects: Optional[Path] = None, **read_as: Any) -> Survey:
+def survey(data: Any, *, by: By, batch: Optional[int] = None, progress: Optional[bool] = None, rejects: Optional[Path] = None,
+           **read_as: Unpack[ReadOptions]) -> Survey:
     """Reads a feed whole, checks and counts it, and applies nothing: returns a `Survey`.
 
     `data`, `by`, `batch`, `rejects` and `progress` are those of `Store.load`.
@@ -318,10 +321,16 @@ def survey(data: Any, *, by: str, batch: Optional[int] = None, progress: Optiona
     >>> survey([("bonn", "kassel", 230), ("bonn", "", 98)], by="set").faults[0].field
     'target'
     """
-    how, size = ReadAs.of(read_as), records.MOST_OPERATIONS if batch is None else batch
+    how = ReadAs.of(read_as)
+    return surveyed(data, how, Terms(units=how.units_given), by, batch, progress, rejects)
+
+
+def surveyed(data: Any, how: ReadAs, terms: Terms, by: str, batch: Optional[int], progress: Optional[bool],
+             rejects: Optional[Path]) -> Survey:
+    """A feed's survey in these terms."""
+    size = records.MOST_OPERATIONS if batch is None else batch
     must_be_way(by, size)
     feed = turned(how.feed(data), names=how.names)
-    terms = terms or Terms(units=how.units_given)
     counter, told = Count(feed.name, by, size, terms, how.decimal), Progress(f"reading {feed.name}", None, progress)
     kept = None if rejects is None else Rejects(rejects, how.encoding, data)
     counter.bin = None if kept is None else Bin()

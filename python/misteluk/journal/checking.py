@@ -2,7 +2,6 @@
 too."""
 from __future__ import annotations
 
-import os
 import sqlite3
 from contextlib import closing
 from typing import Callable, Dict, Iterator, List, NamedTuple
@@ -12,7 +11,7 @@ from .journal import must_be_whole
 from .lock import is_written
 from .opening import make_engine
 from .recovery import State, must_end, oldest_kept, rows_of
-from .tables import connect, faults_told, read_head, read_settings
+from .tables import connect, faults_told, place_of, read_head, read_settings
 from ..values.texts import Path
 from ..errors import JournalFault
 
@@ -31,9 +30,7 @@ def check(path: Path) -> Checked:
     """Reads a store's file from its oldest version on: the pages as SQLite checks them, each batch's sum, each base's digest; and
     replays the batches, whose graph has to be that of each base that they lead to. Raises `OSError` where there is no file, and
     `JournalFault` where it is no store's, or so damaged that nothing can be read."""
-    place = os.path.realpath(path)
-    with open(place, "rb"):
-        pass
+    place = place_of(path)
     faults: List[str] = []
     if not is_written(place):
         faults += _told(lambda: must_be_whole(place))

@@ -89,7 +89,7 @@ class Journaled(Passing):
         except Exception:
             self._inner.cancel()
             raise
-        return self._finished(flight, row)
+        return self._booked(self._inner.finish(flight), row)
 
     def _written(self, flight: LibraryFlight, records: bytes) -> Written:
         """Writes a batch that is ready, with what comes with it."""
@@ -117,7 +117,7 @@ class Journaled(Passing):
         rows = self._journal.append(entries, self.settings.with_units(self._terms.units))
         self._seen += len(texts)
         try:
-            return [self._accepted(flight, row) for flight, row in zip(flights, rows)]
+            return [self._booked(self._inner.fly(flight), row) for flight, row in zip(flights, rows)]
         except BaseException as fault:
             raise self._journal.end(f"the file has batches that the store doesn't take ({fault})") from fault
 
@@ -143,16 +143,8 @@ class Journaled(Passing):
         finally:
             self._inner.cancel()
 
-    def _accepted(self, flight: LibraryFlight, row: Written) -> Commit:
-        """Has the library apply a batch that the file has."""
-        receipt = self._inner.fly(flight)
-        self.state.take(row, receipt)
-        self.beside.grew(row.operations)
-        return receipt
-
-    def _finished(self, flight: LibraryFlight, row: Written) -> Commit:
-        """Has the library accept a batch that the file has."""
-        receipt = self._inner.finish(flight)
+    def _booked(self, receipt: Commit, row: Written) -> Commit:
+        """Takes what the library did with a batch that the file has."""
         self.state.take(row, receipt)
         self.beside.grew(row.operations)
         return receipt
@@ -164,7 +156,8 @@ class Journaled(Passing):
         if flight is None:
             return
         if self._journal.fault is None and self._journal.settle().version > self.state.version:
-            self._finished(flight, self._journal.last())
+            row = self._journal.last()
+            self._booked(self._inner.finish(flight), row)
         else:
             self._inner.cancel()
         self._flying = None

@@ -7,7 +7,7 @@ from typing import Optional
 from .compaction import FileCompacted, History, checked
 from .engine import Journaled
 from ..engine.operations import Post
-from ..engine.protocol import Engine
+from ..engine.protocol import SERVED, Engine
 from ..errors import StoreError
 
 
@@ -59,7 +59,9 @@ class StoreFile:
 
     def __init__(self, engine: Engine) -> None:
         if not isinstance(engine, Journaled):
-            raise StoreError("the store has no file: Store(path) makes one that has")
+            raise StoreError("a server's store has its file there: what is posted to /v1/rows with the header Idempotency-Key is "
+                             "applied once" if engine.name == SERVED else
+                             "the store has no file: Store(path) makes one that has")
         self._engine = engine
 
     @property

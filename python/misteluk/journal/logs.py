@@ -1,14 +1,13 @@
 """A store's file as a script, which `stinger run` takes."""
 from __future__ import annotations
 
-import os
 import sqlite3
 from contextlib import closing
 from typing import Iterator, Optional
 
 from .bases import Base, read_base
 from .recovery import oldest_kept, rows_of
-from .tables import connect, faults_told, read_head
+from .tables import connect, faults_told, place_of, read_head
 from ..engine.copies import Content, operations_of
 from ..values.texts import Path
 from ..engine.operations import records_of
@@ -26,9 +25,7 @@ def log(path: Path, since: Optional[int] = None) -> Iterator[bytes]:
     A `commit` has at most 4,096 operations, so a larger batch has several. Each batch's sum is checked before it is given. What
     came with batches stands in no record: the texts of ids, producers, and that an endless store dropped names. Raises
     `ValueError` where the file doesn't have the version any more."""
-    place = os.path.realpath(path)
-    with open(place, "rb"):
-        pass
+    place = place_of(path)
     with faults_told(), closing(connect(place)) as opened:
         opened.execute("BEGIN")
         head, oldest = read_head(opened), oldest_kept(opened)

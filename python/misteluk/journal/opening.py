@@ -1,7 +1,6 @@
 """Opening a store's file: to go on with it, or as of a version or a time."""
 from __future__ import annotations
 
-import os
 import sqlite3
 from contextlib import closing
 from datetime import date
@@ -11,8 +10,8 @@ from .compaction import History, checked
 from .engine import AsOf, Journaled
 from .journal import Journal, must_be_whole
 from .lock import is_written
-from .recovery import State, oldest_kept, recover
-from .tables import Settings, connect, faults_told, read_settings
+from .recovery import oldest_kept, recover
+from .tables import Settings, connect, faults_told, place_of, read_settings
 from ..values.texts import Path
 from ..engine.waiting import WaitingEngine
 from ..errors import OverLimit
@@ -112,9 +111,7 @@ def open_at(path: Path, version: Optional[int], time: Optional[When], seats: int
     file has no such version, `OSError` where there is no file, and `JournalFault` where it isn't as it was written."""
     if (version is None) == (time is None):
         raise ValueError("a store is as of a version or of a time: one of the two is said")
-    place = os.path.realpath(path)
-    with open(place, "rb"):
-        pass
+    place = place_of(path)
     if not is_written(place):  # (whose writer looked at the -wal when it began)
         must_be_whole(place)
     with faults_told(), closing(connect(place)) as opened:

@@ -123,6 +123,13 @@ def faults_told() -> Iterator[None]:
         raise JournalFault(f"SQLite: {fault}") from fault
 
 
+def place_of(path: Path) -> str:
+    """Where a file stands that is there, behind links. Raises `OSError` where it isn't there, or can't be read."""
+    place = os.path.realpath(path)
+    with open(place, "rb"):
+        return place
+
+
 def connect(path: Path, mode: str = "ro", sync: str = "full") -> sqlite3.Connection:
     """The database at a path, to be read ("ro"), or to be written ("rw") and made too ("rwc")."""
     name = f"file:{quote(os.fspath(path))}?mode={mode}"
@@ -144,7 +151,13 @@ def connect(path: Path, mode: str = "ro", sync: str = "full") -> sqlite3.Connect
 
 def must_be_ours(opened: sqlite3.Connection, path: Path) -> None:
     """Raises `JournalFault` where something is there that is no store's file: it stays as it is."""
-    is_made = opened.execute("SELECT 1 FROM sqlite_master").fetchone()
+    try:
+        is_made = opened.execute("SELECT 1 FROM sqlite_master").fetchone()
+    except sqlite3.DatabaseError as fault:
+        if str(fault) != "file is not a database":
+            raise
+        raise JournalFault(f"{os.fspath(path)} is no store's file, or is damaged at its beginning. Rows are loaded by "
+                           "Store.load, and what Session.save wrote is restored by Store.restore") from fault
     if is_made and opened.execute("PRAGMA application_id").fetchone() != (APPLICATION,):
         raise JournalFault(f"{os.fspath(path)} is another program's database, and no store's file")
 
@@ -181,14 +194,3 @@ def read_head(opened: sqlite3.Connection) -> Head:
     if row is None or list(map(type, row)) != [int, int, bytes, bytes] or Head(*row[:3]).seal != row[3]:
         raise JournalFault("the head isn't as it was written")
     return Head(*row[:3])
-
-
-def read_sum(opened: sqlite3.Connection, version: int) -> bytes:
-    """The sum of a version, by its batch or its base."""
-    if version == 0:
-        return NO_SUM
-    row: Optional[Tuple[bytes]] = opened.execute(
-        "SELECT sum FROM batches WHERE version=? UNION SELECT sum FROM bases WHERE version=?", (version, version)).fetchone()
-    if row is None:
-        raise JournalFault(f"version {version} is missing")
-    return row[0]

@@ -35,12 +35,11 @@ class View:
         self.neighborhood = neighborhood
         self.html = Page(neighborhood, title).text()
 
-    @property
     def counts(self) -> Dict[str, int]:
-        """The number of edges that are gone, new, changed and kept, by these words.
+        """Returns how many edges are gone, new, changed and kept.
 
-        >>> page.counts["kept"]
-        4
+        >>> page.counts()
+        {'gone': 0, 'new': 0, 'changed': 0, 'kept': 4}
         """
         return self.neighborhood.counts()
 
@@ -70,7 +69,7 @@ class View:
         return f"<View of {self}>"
 
 
-def view(session: "Session[Any, Any]", around: str, hops: int = 2, beside: "Optional[Session[Any, Any]]" = None, *,
+def view(session: Session[Any, Any], around: str, hops: int = 2, beside: Optional[Session[Any, Any]] = None, *,
          kind: Optional[str] = None, since: Moment = 0, until: Moment = records.MOST_TIME, most: int = USUAL_DRAWN,
          title: Optional[str] = None, labels: Optional[Tuple[str, str]] = None) -> View:
     """Returns a page with the vertices within `hops` edges of a vertex, direction ignored, and with the edges among them.
@@ -94,14 +93,7 @@ def view(session: "Session[Any, Any]", around: str, hops: int = 2, beside: "Opti
     sessions = [session] if beside is None else [session, beside]
     named = list(labels or [f"version {it.version}" for it in sessions])[:len(sessions)]
     if beside is not None:
-        _must_fit(session, beside)
+        session._must_show_as(beside)
         if session.store is beside.store and beside.version < session.version:
             sessions, named = sessions[::-1], named[::-1]
     return View(gather(sessions, named, around, hops, Window(kind, since, until), most), title)
-
-
-def _must_fit(first: "Session[Any, Any]", second: "Session[Any, Any]") -> None:
-    """Raises where the weights and times of two stores don't mean the same."""
-    mine, other = first.store.units, second.store.units
-    if mine != other:
-        raise ValueError(f"the sessions' stores have other units: {mine}, and {other}")

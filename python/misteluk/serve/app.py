@@ -4,7 +4,7 @@ from __future__ import annotations
 import json
 import pkgutil
 import re
-from typing import Any, Callable, Dict, Iterator, List, Mapping, Optional, Tuple
+from typing import Any, Callable, Dict, Iterator, Mapping, Optional, Tuple
 
 from starlette.applications import Starlette
 from starlette.exceptions import HTTPException

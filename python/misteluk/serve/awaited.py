@@ -23,12 +23,12 @@ class AsyncSession(Generic[W, T]):
 
     `session` is the session that answers, and `version` the number of its version. An `async with` closes it at the end."""
 
-    def __init__(self, session: "Session[W, T]") -> None:
+    def __init__(self, session: Session[W, T]) -> None:
         self.session, self.version = session, session.version
         self._close: Callable[[], None] = session.close
 
     @classmethod
-    async def connect(cls, url: str, *, version: Optional[int] = None, **options: Any) -> "AsyncSession[Any, Any]":
+    async def connect(cls, url: str, *, version: Optional[int] = None, **options: Any) -> AsyncSession[Any, Any]:
         """Returns a session of a server's last version, or of one with this number that another session holds.
 
         `url` and the options are those of `misteluk.connect`. The connection ends with the session.
@@ -42,7 +42,7 @@ class AsyncSession(Generic[W, T]):
         return await asyncio.to_thread(cls._connected, url, version, options)
 
     @classmethod
-    def _connected(cls, url: str, version: Optional[int], options: Any) -> "AsyncSession[Any, Any]":
+    def _connected(cls, url: str, version: Optional[int], options: Any) -> AsyncSession[Any, Any]:
         store = connect(url, **options)
         try:
             found = cls(store.open(version))
@@ -69,7 +69,7 @@ class AsyncSession(Generic[W, T]):
     def __dir__(self) -> List[str]:
         return sorted({*super().__dir__(), *(it for it in dir(self.session) if not it.startswith("_"))})
 
-    async def __aenter__(self) -> "AsyncSession[W, T]":
+    async def __aenter__(self) -> AsyncSession[W, T]:
         return self
 
     async def __aexit__(self, kind: Optional[Type[BaseException]], fault: Optional[BaseException],

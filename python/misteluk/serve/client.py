@@ -3,6 +3,7 @@ from __future__ import annotations
 
 import re
 from array import array
+from functools import partial
 from typing import Any, Dict, List, Mapping, Optional, Sequence, Tuple, Union, overload
 from weakref import WeakValueDictionary
 
@@ -12,14 +13,14 @@ from .limits import MOST_VALUES
 from .talk import Talk, part
 from ..engine.guard import Guard, alone
 from ..engine.operations import Operations
-from ..engine.protocol import NO_FEEDS, Arrays, Denied, Ends, Marks, Scope
+from ..engine.protocol import NO_FEEDS, SERVED, Arrays, Denied, Ends, Marks, Scope
 from ..errors import Busy, NoAnswer, NoServer, NotAllowed, Refused, SessionClosed, StoreError
 from ..session import Session
 from ..store import Store
 from ..values.answers import Collected, Commit, Stat, T, W
 from ..values.limits import MOST_BLOCKS, Limits
 from ..values.names import NameTable
-from ..values.units import PLAIN, Units
+from ..values.units import Units, units_given
 
 _AN_ID = re.compile(rb"~~[A-Za-z0-9_-]{20}")
 UNKNOWN = "Whether the batch that was sent is in isn't known"
@@ -28,7 +29,7 @@ UNKNOWN = "Whether the batch that was sent is in isn't known"
 class ServedVersion:
     """A version that a server holds for this client, and what it answers."""
 
-    def __init__(self, engine: "ServedEngine", told: Mapping[str, Any], slot: int) -> None:
+    def __init__(self, engine: ServedEngine, told: Mapping[str, Any], slot: int) -> None:
         self.slot, self.number, self.count = slot, int(told["version"]), int(told["vertices"])
         self.name, self._engine = str(told["session"]), engine
         self.is_held = True
@@ -67,7 +68,7 @@ class ServedVersion:
         if not self.is_open:
             raise SessionClosed(f"the session of version {self.number} is closed")
 
-    def _columns(self, call: str, scope: Scope, **given: Any) -> "List[array[int]]":
+    def _columns(self, call: str, scope: Scope, **given: Any) -> List[array[int]]:
         return wire.unpacked(self._ask(call, kind=scope.kind, since=scope.since, until=scope.until, **given))
 
     def _list(self, call: str) -> List[str]:
@@ -81,31 +82,31 @@ class ServedVersion:
     def kinds(self) -> List[str]:
         return self._list("kinds")
 
-    def degrees(self, scope: Scope) -> "Tuple[array[int], array[int], array[int]]":
+    def degrees(self, scope: Scope) -> Tuple[array[int], array[int], array[int]]:
         out, into, weights = self._columns("degrees", scope)
         return out, into, weights
 
-    def weights_in(self, scope: Scope) -> "array[int]":
+    def weights_in(self, scope: Scope) -> array[int]:
         return self._columns("weights_in", scope)[0]
 
-    def labels(self, scope: Scope) -> "array[int]":
+    def labels(self, scope: Scope) -> array[int]:
         return self._columns("labels", scope)[0]
 
-    def cores(self, scope: Scope) -> "array[int]":
+    def cores(self, scope: Scope) -> array[int]:
         return self._columns("cores", scope)[0]
 
-    def levels(self, scope: Scope, source: str) -> "Tuple[Sequence[int], array[int]]":
+    def levels(self, scope: Scope, source: str) -> Tuple[Sequence[int], array[int]]:
         reached, levels = self._columns("levels", scope, name=source)
         return reached, levels
 
-    def within(self, scope: Scope, source: str, steps: int, either: bool) -> "Tuple[array[int], array[int]]":
+    def within(self, scope: Scope, source: str, steps: int, either: bool) -> Tuple[array[int], array[int]]:
         vertices, levels = self._columns("within", scope, name=source, steps=steps, either=either)
         return vertices, levels
 
-    def path(self, scope: Scope, source: str, target: str) -> "array[int]":
+    def path(self, scope: Scope, source: str, target: str) -> array[int]:
         return self._columns("path", scope, name=source, target=target)[0]
 
-    def found(self, ends: Sequence[Ends]) -> "List[Union[Marks, Denied, None]]":
+    def found(self, ends: Sequence[Ends]) -> List[Union[Marks, Denied, None]]:
         told: List[Any] = []
         for at in range(0, max(len(ends), 1), MOST_VALUES):
             told += wire.loaded(self._ask("found", ends=list(ends[at:at + MOST_VALUES])))
@@ -140,7 +141,7 @@ class ServedFlight:
 class ServedEngine:
     """The store of a server. The first batch takes the seat of the one that feeds it; it is given back at the end."""
 
-    name = "served"
+    name = SERVED
     operations_kept = None
     limits, most_blocks, feeds = Limits(), MOST_BLOCKS, NO_FEEDS
 
@@ -164,7 +165,7 @@ class ServedEngine:
         # The texts of names that go as ids, which the store's terms share.
         self.names = NameTable()
         # (one that nobody has any more isn't held)
-        self._held: "WeakValueDictionary[int, ServedVersion]" = WeakValueDictionary()
+        self._held: WeakValueDictionary[int, ServedVersion] = WeakValueDictionary()
         self._feeder, self._number = "", 0
 
     @property
@@ -251,9 +252,10 @@ class ServedEngine:
 
     # Versions.
 
-    def stat(self) -> Stat:
+    def stat(self, after: Optional[int] = None) -> Stat:
+        """The server's counts; with `after` once it has a later version than that one, or waited for as long as it waits."""
         self._must_be_open()
-        told = self.talk.call("GET", "/v1/stat").json()
+        told = self.talk.call("GET", "/v1/stat" if after is None else f"/v1/stat?after={after}").json()
         blocks = told["blocks"]
         return Stat(told["version"], told["vertices"], told["edges"], blocks["free"], blocks["retired"], blocks["used"])
 
@@ -320,11 +322,12 @@ class ServedStore(Store[W, T]):
     4
 
     One client feeds a server's store at a time: its first commit takes that seat, and `close` gives it back; the others' commits
-    raise `Busy`. A server drops a session that asks nothing for as long as its `--idle` says, unless it is kept alive."""
+    raise `Busy`. A batch whose answer is lost is sent again, and applied once. A server drops a session that asks nothing for as
+    long as its `--idle` says, unless it is kept alive."""
 
     def __init__(self, engine: ServedEngine, units: Optional[Units[Any, Any]]) -> None:
         self._is_closed = True
-        given = (units or PLAIN)._or_those(engine.units)
+        given = units_given(units)._or_those(engine.units)
         if not given._same_as(engine.units):
             raise ValueError(f"{engine.told()} has {engine.units}, and {given} is given")
         self._begin(engine, given, True)
@@ -340,6 +343,21 @@ class ServedStore(Store[W, T]):
         self._ledger.settle()
         engine: Any = self._engine
         return Session(self, engine.hold(None, version))
+
+    def stat(self, after: Optional[int] = None) -> Stat:
+        """Returns the last version's number, vertices and edges, and how many blocks are free, retired and used.
+
+        With `after`, a version's number, it waits for a later version, 25 s at most: so you hear of changes without asking again
+        and again. The `timeout` of `connect` has to be longer.
+
+        >>> with served.open() as session:
+        ...     later = served.stat(after=session.version - 1)
+        >>> later.version
+        1
+        """
+        engine: Any = self._engine
+        found: Stat = self._asked("stat", partial(engine.stat, after))
+        return found
 
     def discard(self) -> int:
         """Drops the pending operations and returns how many there were.
@@ -383,7 +401,9 @@ def connect(url: str, *, units: None = None, token: Optional[str] = None, timeou
 
 def connect(url: str, *, units: Optional[Units[Any, Any]] = None, token: Optional[str] = None, timeout: float = 60.0,
             keep_alive: bool = False) -> ServedStore[Any, Any]:
-    """Returns the store of a server (`misteluk serve`), whose sessions answer as those of a store in this process do.
+    """Returns the store of a server, whose sessions answer as those of a store in this process do.
+
+    The server is a process of its own: `python -m misteluk serve graph.db`, say, or with a file that it follows (`--help`).
 
     >>> with connect("http://127.0.0.1:7700") as served, served.open() as session:
     ...     session.path("kassel", "bonn")

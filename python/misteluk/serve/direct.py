@@ -8,7 +8,7 @@ from __future__ import annotations
 import json
 import re
 from time import perf_counter
-from typing import Any, Callable, Dict, List, NamedTuple, Optional, Tuple
+from typing import Any, List, NamedTuple, Optional, Tuple
 
 from . import wire
 from .asking import ASK, ASKED, Answers

@@ -28,7 +28,6 @@ from ..journal.engine import Journaled
 from ..values import records
 from ..values.answers import Commit, sum_of
 from ..values.names import is_plain
-from ..feeds.terms import Terms
 
 # Of how many clients that fed before it is remembered what their last batch did.
 FEEDERS = 100

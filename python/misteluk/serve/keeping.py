@@ -65,7 +65,7 @@ class Keeper:
             with self._saving, board.lent() as session:
                 begun = time.monotonic()
                 if session.version != self._saved:
-                    session.save(self.path, progress=False)
+                    session.save(self.path)
                     self.took = round(time.monotonic() - begun, 3)
                 self._saved, self._when, self.fault = session.version, time.monotonic(), ""
         except Exception as fault:

@@ -4,7 +4,7 @@ import { acting, ask, element, number, the } from "./asking.js";
 // The tables that there are: the question that has each, its column, and how that column is called.
 const tables = {
     out: ["degrees?by=out&", "out", "edges out"], into: ["degrees?by=into&", "into", "edges in"],
-    weight: ["degrees?by=weight&", "weight_out", "weight out"], weights_in: ["weights_in?", "weight_in", "weight in"],
+    weight: ["degrees?by=weight_out&", "weight_out", "weight out"], weights_in: ["weights_in?", "weight_in", "weight in"],
 };
 const filters = ["kind", "since", "until"], fields = { vertex: ["hops", "beside"], from: ["to"], top: [] };
 const parts = { vertex: "view", from: "walk", top: "top" };

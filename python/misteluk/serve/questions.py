@@ -7,7 +7,7 @@ from typing import Any, Callable, Dict, Iterable, Iterator, List, Mapping, Named
 from .tables import Part, columns
 from ..page.view import MOST_DRAWN, MOST_HOPS, USUAL_DRAWN, view
 from ..session import Session
-from ..values.answers import BY_COLUMN, Answer, Edge, Values
+from ..values.answers import OF_DEGREES, Answer, Edge, Values
 from ..values.edges import Edges
 from ..values.texts import for_json
 
@@ -176,7 +176,7 @@ HELD = (Parameter("session", "the session whose version is asked; else the last 
 SCOPE = (Parameter("kind", "edges of this kind; else of any"),
          Parameter("since", "edges with a recent time from this on"), Parameter("until", "and up to this"))
 TOP = (Parameter("top", "the rows with the greatest values alone, so many", least=0, most=100_000),)
-BY = (Parameter("by", "by which column the greatest are", choices=tuple(BY_COLUMN)),)
+BY = (Parameter("by", "by which column the greatest are", choices=OF_DEGREES),)
 VERTEX = (Parameter("vertex", "a vertex's name", True),)
 ENDS = (Parameter("source", "a vertex's name", True), Parameter("target", "a vertex's name", True))
 WAY = Parameter("direction", "along edges, or either way", choices=("out", "both"))
@@ -195,7 +195,7 @@ QUESTIONS = (
                    (*VERTEX, HOPS, WAY, *SCOPE, *TOP), _within, OF_LEVELS),
     ServedQuestion("path", "a shortest walk as its names, or null", (*ENDS, *SCOPE), _path),
     ServedQuestion("degrees", "how many edges go out of each vertex and come in, and the weight that goes out",
-                   (*SCOPE, *TOP, *BY), _table("degrees"), ("name", "out", "into", "weight_out")),
+                   (*SCOPE, *TOP, *BY), _table("degrees"), ("name", *OF_DEGREES)),
     ServedQuestion("weights_in", "the weight that comes into each vertex", (*SCOPE, *TOP), _table("weights_in"),
                    ("name", "weight_in")),
     ServedQuestion("components", "a label for each vertex, the same for those that edges join", SCOPE, _table("components"),

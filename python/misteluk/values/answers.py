@@ -5,7 +5,6 @@ import heapq
 from array import array
 from collections import Counter
 from dataclasses import dataclass, fields, is_dataclass
-from html import escape
 from types import MappingProxyType
 from typing import (TYPE_CHECKING, Any, Callable, Dict, Generic, ItemsView, Iterable, Iterator, KeysView, List, Mapping,
                     NamedTuple, Optional, Sequence, Tuple, TypeVar, ValuesView)
@@ -161,12 +160,12 @@ class Neighbor(Generic[W, T]):
     180
     """
 
-    out: "Optional[Edge[W, T]]"
-    into: "Optional[Edge[W, T]]"
+    out: Optional[Edge[W, T]]
+    into: Optional[Edge[W, T]]
 
 
-# The columns of degrees: also as they are named on a command line.
-BY_COLUMN = {"out": "out", "into": "into", "incoming": "into", "weight": "weight_out"}
+# The columns of degrees.
+OF_DEGREES = tuple(it.name for it in fields(Degree))
 
 
 class Values(NamedTuple):
@@ -180,7 +179,7 @@ class Values(NamedTuple):
         values = self.values if at == slice(None) else self.values[at]
         return values if self.told is None else self.told(values)
 
-    def read_only(self) -> "Values":
+    def read_only(self) -> Values:
         """The same, which nobody can change."""
         values = self.values
         return self._replace(values=ReadOnlyArray(values) if isinstance(values, array) else
@@ -199,7 +198,7 @@ class Answer(Mapping[str, V], Generic[V]):
 
     def __init__(self, *given: Any, version: int = 0, request: str = "", value: str = "value", **named: Any) -> None:
         self.version, self.request, self.value = version, request, value
-        self._rows: "Optional[Dict[str, V]]" = dict(*given, **named)
+        self._rows: Optional[Dict[str, V]] = dict(*given, **named)
         self.names: Tuple[str, ...] = tuple(self._rows)
         self.columns: Mapping[str, Values] = MappingProxyType({})
 
@@ -211,15 +210,15 @@ class Answer(Mapping[str, V], Generic[V]):
         answer.columns = MappingProxyType({name: it.read_only() for name, it in columns.items()})
         return answer
 
-    def dict(self) -> "Dict[str, V]":
+    def to_dict(self) -> Dict[str, V]:
         """Returns the rows as a dict of your own.
 
-        >>> levels.dict()
+        >>> levels.to_dict()
         {'kassel': 0, 'fulda': 1, 'hanau': 2, 'bonn': 3}
         """
         return self._made().copy()
 
-    def _made(self) -> "Dict[str, V]":
+    def _made(self) -> Dict[str, V]:
         """The rows as a dict, which is made once."""
         if self._rows is None:
             self._rows = dict(zip(self.names, self._values()))
@@ -230,7 +229,7 @@ class Answer(Mapping[str, V], Generic[V]):
         columns = [it.all_told(at) for it in self.columns.values()]
         return map(Degree, *columns) if len(columns) > 1 else iter(columns[0])
 
-    def _rows_from(self, first: int, end: int) -> "List[Tuple[str, V]]":
+    def _rows_from(self, first: int, end: int) -> List[Tuple[str, V]]:
         """The rows from one place to another; no dict is made for them."""
         at = slice(first, end)
         if not self.columns:
@@ -290,12 +289,12 @@ class Answer(Mapping[str, V], Generic[V]):
             return _with_rows, (type(self), self._rows, self.version, self.request, self.value)
         return type(self)._of, (self.names, told, self.version, self.request, self.value)
 
-    def numpy(self) -> "Dict[str, numpy.ndarray[Any, Any]]":
-        """Returns the columns as numpy arrays of your own, with each value in the place of its name in `names`.
+    def to_numpy(self) -> Dict[str, numpy.ndarray[Any, Any]]:
+        """Returns the columns by name as numpy arrays of your own, with each value in the place of its name in `names`.
 
-        Numbers are whole, and weights in the parts that the store counts; labels are names.
+        Numbers are whole, and weights in the parts that the store counts: cents with `Units(weight_scale=100)`. Labels are names.
 
-        >>> levels.numpy()["level"].tolist()  # needs numpy
+        >>> levels.to_numpy()["level"].tolist()  # needs numpy
         [0, 1, 2, 3]
         """
         numpy = needed("numpy", "an array")
@@ -303,10 +302,10 @@ class Answer(Mapping[str, V], Generic[V]):
             return {self.value: numpy.array(list(self.values()))}
         return {name: numpy.array(it.all_told() if self.value == "label" else it.values) for name, it in self.columns.items()}
 
-    def frame(self) -> "pandas.DataFrame":
-        """Returns the table as a pandas frame, whose index has the names.
+    def to_pandas(self) -> pandas.DataFrame:
+        """Returns the table as a pandas DataFrame, whose index has the names. Weights are in the store's units.
 
-        >>> levels.frame()["level"].to_dict()["bonn"]  # needs pandas
+        >>> levels.to_pandas()["level"].to_dict()["bonn"]  # needs pandas
         3
         """
         pandas = needed("pandas", "a frame")
@@ -331,10 +330,10 @@ class Answer(Mapping[str, V], Generic[V]):
         told = f"{len(self)} {'name' if len(self) == 1 else 'names'} of version {self.version}: {self.request}"
         return rows_as_html(["name", *self._fields()], rows, told)
 
-    def top(self, count: int = 10, by: Optional[str] = None) -> "List[Tuple[str, V]]":
+    def top(self, count: int = 10, by: Optional[str] = None) -> List[Tuple[str, V]]:
         """Returns the `count` rows with the greatest values, greatest first; equal ones in the order of the table.
 
-        `by` is a column of degrees: "out" (as without it), "into" or "weight"; other tables have one column.
+        `by` is a column: of degrees "out" (as without it), "into" or "weight_out"; other tables have one.
 
         >>> levels.top(1)
         [('bonn', 3)]
@@ -342,11 +341,11 @@ class Answer(Mapping[str, V], Generic[V]):
         [('hanau', Degree(out=1, into=2, weight_out=180))]
         """
         names = self._fields()
-        field = BY_COLUMN.get(by or "out", by) if len(names) > 1 or by else names[0]
+        field = by or names[0]
         if self.names and field not in names:
-            raise ValueError(f"by is 'out', 'into' or 'weight' for degrees, and not {by!r}")
+            raise ValueError(f"by is a column, {' or '.join(map(repr, names))}, and not {by!r}")
         values: Any = list(self._values() if self.columns else self.values())
-        order = [getattr(it, field or "") for it in values] if len(names) > 1 else values
+        order = [getattr(it, field) for it in values] if len(names) > 1 else values
         places = heapq.nlargest(count, range(len(order)), key=order.__getitem__)
         return [(self.names[at], values[at]) for at in places]
 
@@ -357,6 +356,9 @@ class Components(Answer[str]):
     >>> components = session.components("rail")
     >>> components["hanau"], components["bonn"]
     ('kassel', 'bonn')
+    >>> groups = components.to_pandas().groupby("label").groups  # needs pandas
+    >>> groups["kassel"].tolist()
+    ['kassel', 'hanau']
     """
 
     def sizes(self) -> Dict[str, int]:
@@ -367,7 +369,7 @@ class Components(Answer[str]):
         """
         return dict(Counter(self.values()))
 
-    def top(self, count: int = 10, by: Optional[str] = None) -> "List[Tuple[str, Any]]":
+    def top(self, count: int = 10, by: Optional[str] = None) -> List[Tuple[str, Any]]:
         """Returns the `count` largest components, largest first: their labels and how many vertices they have.
 
         `by` is for degrees, and raises `ValueError` here.
@@ -389,21 +391,23 @@ def _cells(value: Any) -> Sequence[Any]:
 
 def rows_as_html(head: Sequence[str], rows: Iterable[Sequence[object]], told: str) -> str:
     """What a notebook shows of rows: a table with this head, and what is told of them."""
+    from html import escape
     cells = ("".join(f"<td>{escape(str(it))}</td>" for it in row) for row in [head, *rows])
     return f"<table>{''.join(f'<tr>{it}</tr>' for it in cells)}</table><p>{escape(told)}</p>"
 
 
 def shown_as_html(title: str, told: Mapping[str, object]) -> str:
     """What a notebook shows of something: a table of what is told of it."""
+    from html import escape
     rows = "".join(f"<tr><th>{escape(name)}</th><td>{escape(str(it))}</td></tr>" for name, it in told.items())
     return f"<table><caption>{escape(title)}</caption>{rows}</table>"
 
 
-def degrees(out: "array[int]", into: "array[int]", weights: "array[int]", told: Any) -> Dict[str, Values]:
+def degrees(out: array[int], into: array[int], weights: array[int], told: Any) -> Dict[str, Values]:
     """The columns of a table of degrees."""
-    return {"out": Values(out), "into": Values(into), "weight_out": Values(weights, told)}
+    return dict(zip(OF_DEGREES, (Values(out), Values(into), Values(weights, told))))
 
 
-def _with_rows(kind: Any, rows: Any, version: int, request: str, value: str) -> "Answer[Any]":
+def _with_rows(kind: Any, rows: Any, version: int, request: str, value: str) -> Answer[Any]:
     made: Answer[Any] = kind(rows, version=version, request=request, value=value)
     return made

@@ -5,7 +5,7 @@ from dataclasses import dataclass
 from typing import TYPE_CHECKING, Any, Dict, Generic, List, NamedTuple, Optional, Sequence, Tuple
 
 from .answers import ROWS_SHOWN, Edge, T, W, rows_as_html
-from .edges import A_FEW, HEADER, Edges
+from .edges import HEADER, Edges
 from .fields import numpy_for
 from ..errors import needed
 
@@ -31,8 +31,8 @@ class Changed(Generic[W, T]):
     kind: str
     source: str
     target: str
-    before: "Edge[W, T]"
-    after: "Edge[W, T]"
+    before: Edge[W, T]
+    after: Edge[W, T]
 
 
 class Places(NamedTuple):
@@ -57,13 +57,13 @@ class Diff(Generic[W, T]):
     there is any difference."""
 
     def __init__(self, earlier: Edges[W, T], later: Edges[W, T]) -> None:
-        numpy = numpy_for(len(earlier) + len(later), A_FEW)
+        numpy = numpy_for(len(earlier) + len(later))
         found = places_of(earlier, later) if numpy is None else places_at_once(numpy, earlier, later)
         self.gone, self.new = earlier.take(found.gone), later.take(found.new)
         self.before, self.after = earlier.take(found.before), later.take(found.after)
 
     @property
-    def changed(self) -> "List[Changed[W, T]]":
+    def changed(self) -> List[Changed[W, T]]:
         """The changed edges as a list of `Changed`.
 
         >>> diff.changed[0].before.weight
@@ -80,12 +80,13 @@ class Diff(Generic[W, T]):
         """
         return {"gone": len(self.gone), "new": len(self.new), "changed": len(self.after)}
 
-    def frame(self) -> "pandas.DataFrame":
-        """Returns all of them as a pandas frame, with what became of each edge in the column `state` (gone, new or changed).
+    def to_pandas(self) -> pandas.DataFrame:
+        """Returns all of them as a pandas DataFrame, with what became of each edge in the column `state` (gone, new or changed).
 
-        The other columns are kind, source and target, and weight and times before and after, empty where the edge wasn't there.
+        The other columns are kind, source and target, and weight and times before and after (`weight_before`, `weight_after` and
+        so on), empty where the edge wasn't there.
 
-        >>> diff.frame()["weight_after"].tolist()  # needs pandas
+        >>> diff.to_pandas()["weight_after"].tolist()  # needs pandas
         [250]
         """
         numpy, pandas = needed("numpy", "a frame"), needed("pandas", "a frame")
@@ -160,7 +161,7 @@ def places_at_once(numpy: Any, earlier: Edges[Any, Any], later: Edges[Any, Any])
     return Places(numpy.flatnonzero(is_gone), numpy.flatnonzero(~is_there), before[is_changed], after[is_changed])
 
 
-def _matched(numpy: Any, old: Any, new: Any) -> "Tuple[Any, Any]":
+def _matched(numpy: Any, old: Any, new: Any) -> Tuple[Any, Any]:
     """For each of the new keys its place among the old ones, and whether it is there."""
     if len(old) == 0 or len(old) == len(new) and (old == new).all():
         return numpy.arange(len(new)), numpy.full(len(new), len(old) > 0)

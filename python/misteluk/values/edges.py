@@ -22,8 +22,8 @@ if TYPE_CHECKING:
     import scipy.sparse
 
 HEADER = ("kind", "source", "target", *Edge._fields)
-# How many edges are written at once; and from how many on numpy is quicker than loops, once it is loaded.
-WRITTEN_AT_ONCE, A_FEW = 65_536, 500
+# How many edges are written at once.
+WRITTEN_AT_ONCE = 65_536
 # An edge as a user is told it.
 if TYPE_CHECKING:
     Told = Tuple[str, str, str, Edge[W, T]]
@@ -41,9 +41,9 @@ class Edges(Sequence["Told[W, T]"], Generic[W, T]):
     `kind`, `source` and `target` have numbers, which are places in `kinds` and `names`, as in Arrow's dictionary arrays. Names
     keep their numbers from version to version, unless the store starts over. `weight`, `first` and `recent` have whole numbers:
     weights in the parts that the store counts (`units.weight_scale` make 1), dates in microseconds since 1970. Nobody can change
-    the arrays, which may be the session's own; a frame is a copy."""
+    the arrays, which may be the session's own; a DataFrame is a copy."""
 
-    def __init__(self, kinds: Sequence[str], names: Sequence[str], units: Units[W, T], columns: "Sequence[array[int]]") -> None:
+    def __init__(self, kinds: Sequence[str], names: Sequence[str], units: Units[W, T], columns: Sequence[array[int]]) -> None:
         self.kinds, self.names, self.units, self._columns = kinds, names, units, columns
 
     def __reduce__(self) -> Any:
@@ -118,10 +118,10 @@ class Edges(Sequence["Told[W, T]"], Generic[W, T]):
         return len(self._columns[0])
 
     @overload
-    def __getitem__(self, at: int) -> "Told[W, T]": ...
+    def __getitem__(self, at: int) -> Told[W, T]: ...
 
     @overload
-    def __getitem__(self, at: slice) -> "Edges[W, T]": ...
+    def __getitem__(self, at: slice) -> Edges[W, T]: ...
 
     def __getitem__(self, at: Any) -> Any:
         if isinstance(at, slice):
@@ -129,16 +129,16 @@ class Edges(Sequence["Told[W, T]"], Generic[W, T]):
         kind, source, target, *marks = [it[at] for it in self._columns]
         return self.kinds[kind], self.names[source], self.names[target], self.units._edge_to_user(*marks)
 
-    def __iter__(self) -> "Iterator[Told[W, T]]":
+    def __iter__(self) -> Iterator[Told[W, T]]:
         kinds, names = self.kinds.__getitem__, self.names.__getitem__
         kind, source, target, *_ = self._columns
         return zip(map(kinds, kind), map(names, source), map(names, target), self._marks())
 
-    def _marks(self) -> "Iterator[Edge[W, T]]":
+    def _marks(self) -> Iterator[Edge[W, T]]:
         """Each edge's weight and times, in the store's units."""
         return map(Edge, *self._told())
 
-    def where(self, mask: Sequence[Any]) -> "Edges[W, T]":
+    def where(self, mask: Sequence[Any]) -> Edges[W, T]:
         """Returns the edges for which `mask` is true: an array or sequence with a truth for each. `ValueError`: it has another
         length.
 
@@ -149,39 +149,42 @@ class Edges(Sequence["Told[W, T]"], Generic[W, T]):
             raise ValueError(f"a mask has a truth for each of {len(self)} edges, and this has {len(mask)}")
         return self.take([at for at, it in enumerate(mask) if it])
 
-    def take(self, places: Sequence[int]) -> "Edges[W, T]":
+    def take(self, places: Sequence[int]) -> Edges[W, T]:
         """Returns the edges in these places, which count from 0.
 
         >>> edges.take([2])[0]
         ('road', 'hanau', 'bonn', Edge(weight=180, first=3, recent=3))
         """
-        numpy = numpy_for(len(places), A_FEW)
+        numpy = numpy_for(len(places))
         if numpy is None:
             columns = [array(it.typecode, map(it.__getitem__, places)) for it in self._columns]
         else:
             columns = [array(it.typecode, numpy.asarray(it)[places].tobytes()) for it in self._columns]
         return Edges(self.kinds, self.names, self.units, columns)
 
-    def _told(self) -> "List[Sequence[Any]]":
+    def _told(self) -> List[Sequence[Any]]:
         """The weights and both times in the store's units, by column."""
         return [self.units._all_weights_to_user(self.weight), self.units._all_times_to_user(self.first),
                 self.units._all_times_to_user(self.recent)]
 
-    def numpy(self) -> "Dict[str, numpy.ndarray[Any, Any]]":
-        """Returns the columns as numpy arrays, which are read-only views of these: to change one, take its `.copy()`.
+    def to_numpy(self) -> Dict[str, numpy.ndarray[Any, Any]]:
+        """Returns the columns by name as numpy arrays, which are read-only views of these: to change one, take its `.copy()`.
 
-        >>> int(edges.numpy()["weight"].sum())  # needs numpy
+        Weights are in the parts that the store counts, and dates in microseconds since 1970; the other three are places.
+
+        >>> int(edges.to_numpy()["weight"].sum())  # needs numpy
         383
         """
         numpy = needed("numpy", "an array")
         return {name: numpy.asarray(it) for name, it in self.columns.items()}
 
-    def frame(self) -> "pandas.DataFrame":
-        """Returns the edges as a pandas frame of your own, with the columns kind, source, target, weight, first and recent.
+    def to_pandas(self) -> pandas.DataFrame:
+        """Returns the edges as a pandas DataFrame of your own: the columns are kind, source, target, weight, first and recent.
 
-        Decimal weights are objects, which pandas can't sum as numbers, unless the store has `decimals="float"`.
+        Weights and times are as in an `Edge`. Decimal weights are objects, of which pandas takes sums but neither `nlargest` nor
+        `quantile`; they are numbers if the store has `Units(decimals="float")`.
 
-        >>> edges.frame()["target"].tolist()  # needs pandas
+        >>> edges.to_pandas()["target"].tolist()  # needs pandas
         ['fulda', 'hanau', 'bonn']
         """
         numpy, pandas = needed("numpy", "a frame"), needed("pandas", "a frame")
@@ -221,11 +224,14 @@ class Edges(Sequence["Told[W, T]"], Generic[W, T]):
             told = self.units._all_times_to_user(times.tolist())
             return list(told) if is_there is None else [it if there else None for it, there in zip(told, is_there.tolist())]
 
-    def to_networkx(self, **about: Any) -> "networkx.MultiDiGraph":
-        """Returns the edges as a networkx graph, as `Session.to_networkx` does. `about` are attributes of the graph.
+    def to_networkx(self, **about: Any) -> networkx.MultiDiGraph:
+        """Returns the edges as a networkx graph. `about` are attributes of the graph, as `version=session.version`.
 
-        >>> edges.to_networkx(year=2024).graph["year"]  # needs networkx
-        2024
+        Each name of the version is a node, in order. An edge's key is its kind, and its attributes are `kind`, `weight`, `first`
+        and `recent`.
+
+        >>> session.edges().to_networkx().edges["kassel", "hanau", "rail"]["weight"]  # needs networkx
+        210
         """
         networkx = needed("networkx", "a graph")
         graph = networkx.MultiDiGraph(**about)
@@ -234,11 +240,14 @@ class Edges(Sequence["Told[W, T]"], Generic[W, T]):
                              for it, source, target, edge in self)
         return graph
 
-    def to_igraph(self, **about: Any) -> "igraph.Graph":
-        """Returns the edges as a directed igraph graph, as `Session.to_igraph` does. `about` are attributes of the graph.
+    def to_igraph(self, **about: Any) -> igraph.Graph:
+        """Returns the edges as a directed igraph graph. `about` are attributes of the graph.
 
-        >>> edges.to_igraph(year=2024).vs["name"]  # needs igraph
-        ['kassel', 'fulda', 'hanau', 'bonn']
+        Vertices are numbered as in the version, and have `name`. Edges have the attributes `kind`, `weight`, `first` and
+        `recent`.
+
+        >>> session.edges().to_igraph().es["kind"].count("road")  # needs igraph
+        3
         """
         igraph = needed("igraph", "a graph")
         graph = igraph.Graph(len(self.names), list(zip(self.source, self.target)), directed=True)
@@ -250,11 +259,13 @@ class Edges(Sequence["Told[W, T]"], Generic[W, T]):
             graph.es[name] = list(values)
         return graph
 
-    def to_scipy(self) -> "scipy.sparse.csr_matrix":
-        """Returns the weights as a sparse matrix, as `Session.to_scipy` does.
+    def to_scipy(self) -> scipy.sparse.csr_matrix:
+        """Returns the weights as a sparse matrix: row and column are the numbers of source and target, by `names`.
 
-        >>> int(edges.to_scipy().sum())  # needs scipy
-        383
+        Weights of several kinds are summed, in the parts that the store counts (see `Units.weight_scale`).
+
+        >>> session.edges().to_scipy().shape  # needs scipy
+        (4, 4)
         """
         numpy, sparse = needed("numpy", "a sparse matrix"), needed("scipy.sparse", "a sparse matrix")
         ends = numpy.asarray(self.source).astype("int64"), numpy.asarray(self.target).astype("int64")
@@ -262,10 +273,13 @@ class Edges(Sequence["Told[W, T]"], Generic[W, T]):
         return sparse.csr_matrix((numpy.asarray(self.weight).astype("int64"), ends), shape=(size, size))
 
     def to_csv(self, path: Path) -> int:
-        """Writes the edges as CSV, as `Session.to_csv` does, and returns how many there are.
+        """Writes the edges as CSV in UTF-8 with a header, and returns how many there are.
 
-        >>> edges.to_csv("roads.csv")
-        3
+        The columns are kind, source, target, weight, first and recent. The file is written under another name and renamed when it
+        is whole: an error or an interrupt leaves what was there.
+
+        >>> session.edges().to_csv("roads.csv")
+        4
         """
         kinds, names = fields_of_csv(self.kinds), fields_of_csv(self.names)
         with whole_text(path) as file:
@@ -277,7 +291,7 @@ class Edges(Sequence["Told[W, T]"], Generic[W, T]):
                 file.write("\n".join([*map(",".join, zip(*columns)), ""]))
         return len(self)
 
-    def top(self, count: int = 10, by: Literal["weight", "first", "recent"] = "weight") -> "List[Told[W, T]]":
+    def top(self, count: int = 10, by: Literal["weight", "first", "recent"] = "weight") -> List[Told[W, T]]:
         """Returns the `count` edges with the greatest "weight", "first" or "recent" (`by`), greatest first.
 
         >>> edges.top(1)

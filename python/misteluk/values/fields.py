@@ -13,9 +13,11 @@ from .columns import FieldColumn, NumbersOf, whole
 if TYPE_CHECKING:
     from .units import Units
 
-# From how many items on numpy is worth to be loaded; how many bytes a field may have that is compared in words of eight; by what
-# a word is multiplied before the next one is mixed in; and how often texts that fall together are tried once more.
-MANY, MOST_BYTES, MIX, MOST_TURNS = 50_000, 64, 0x9E37_79B9_7F4A_7C15, 12
+# From how many items on numpy is worth to be loaded, and from how many it is quicker than loops where it is loaded already.
+MANY, A_FEW = 50_000, 500
+# How many bytes a field may have that is compared in words of eight; by what a word is multiplied before the next one is mixed
+# in; and how often texts that fall together are tried once more.
+MOST_BYTES, MIX, MOST_TURNS = 64, 0x9E37_79B9_7F4A_7C15, 12
 # How a text that isn't in ASCII is bytes here, whatever is in it.
 CODEC = ("utf-8", "surrogatepass")
 # Eight digits as one word: zeros; what makes a sign past nine have its top bit; and how digits become pairs of them, and so on.
@@ -25,11 +27,10 @@ PAIRS = ((0x0F0F_0F0F_0F0F_0F0F, 10 << 8 | 1, 8), (0x00FF_00FF_00FF_00FF, 100 <<
 _TO_BE_QUOTED = re.compile(r'[",\r\n]')
 
 
-def numpy_for(count: int, where_loaded: Optional[int] = None) -> Any:
+def numpy_for(count: int, where_loaded: int = A_FEW) -> Any:
     """The package numpy, where it is there and so many items are worth that it is loaded; else `None`. Where it is loaded already
-    fewer items may be worth that it is used."""
-    least = MANY if where_loaded is None or "numpy" not in sys.modules else min(where_loaded, MANY)
-    if count < least:
+    fewer items are worth that it is used."""
+    if count < (min(where_loaded, MANY) if "numpy" in sys.modules else MANY):
         return None
     try:
         import numpy
@@ -182,7 +183,7 @@ def fields_of(text: str, sign: str) -> Optional[List[Fields]]:
     """The columns of a text's lines, of which each ends in a line feed and has as many fields as the first, two or more; none
     where one has more or less, and where quotes stand amid a field, or around a sign that ends one. `None` where numpy isn't
     there, or isn't worth to be loaded."""
-    numpy = numpy_for(len(text))
+    numpy = numpy_for(len(text), MANY)
     if numpy is None:
         return None
     held: Union[str, bytes] = text if text.isascii() else text.encode(*CODEC)

@@ -19,9 +19,8 @@ from .units import Units
 
 # What makes texts of some values, of which the first has this number.
 TextsOf = Callable[[Any, int], Sequence[str]]
-# From how many rows on numpy is quicker than loops, once it is loaded; and by how many more than rows the numbers of a column may
-# differ that are looked up in a table.
-A_FEW, ROOM_BESIDE = 500, 1 << 16
+# By how many more than rows the numbers of a column may differ that are looked up in a table.
+ROOM_BESIDE = 1 << 16
 # How many microseconds a unit of numpy's dates has; and how many of them a microsecond has.
 _LONG = {"D": 86_400 * 10 ** 6, "h": 3_600 * 10 ** 6, "m": 60 * 10 ** 6, "s": 10 ** 6, "ms": 1_000, "us": 1}
 _NANOSECONDS = 1_000
@@ -35,8 +34,8 @@ _ROUNDING = Context(prec=60, rounding=ROUND_HALF_EVEN)
 class Whole:
     """A column as a whole, of which only the texts are known."""
 
-    def __init__(self, numpy: Any, source: Any, texts_of: TextsOf) -> None:
-        self.numpy, self.source, self.texts_of = numpy, source, texts_of
+    def __init__(self, numpy: Any, source: Any, texts_of: TextsOf, values: Any = None) -> None:
+        self.numpy, self.source, self.texts_of, self.values = numpy, source, texts_of, values
 
     def texts(self, first: int, end: int) -> Sequence[str]:
         """The texts of some rows."""
@@ -170,10 +169,6 @@ class Categories(Coded):
 class Numbers(Coded):
     """An array of whole numbers."""
 
-    def __init__(self, numpy: Any, source: Any, texts_of: TextsOf, values: Any) -> None:
-        super().__init__(numpy, source, texts_of)
-        self.values = values
-
     @cached_property
     def _least(self) -> int:
         return int(self.values.min())
@@ -210,10 +205,6 @@ class Numbers(Coded):
 class Floats(Whole):
     """An array of floats. One stands for the number that it is printed as."""
 
-    def __init__(self, numpy: Any, source: Any, texts_of: TextsOf, values: Any) -> None:
-        super().__init__(numpy, source, texts_of)
-        self.values = values
-
     def weights(self, rows: slice, units: Units[Any, Any]) -> "Optional[array[int]]":
         with self.numpy.errstate(all="ignore"):
             parts = self._parts(rows, units)
@@ -248,10 +239,6 @@ class Floats(Whole):
 class Moments(Whole):
     """An array of numpy's dates, in UTC."""
 
-    def __init__(self, numpy: Any, source: Any, texts_of: TextsOf, values: Any) -> None:
-        super().__init__(numpy, source, texts_of)
-        self.values = values
-
     def times(self, rows: slice, units: Units[Any, Any]) -> "Optional[array[int]]":
         unit, count = self.numpy.datetime_data(self.values.dtype)
         values = self.values[rows].astype("int64")
@@ -267,7 +254,7 @@ class Moments(Whole):
 
 def given(column: Any, texts_of: TextsOf) -> Optional[Given]:
     """A column of values by what they are, where numpy is there and the rows are worth it; `texts_of` gives the texts of some."""
-    numpy = numpy_for(len(column), A_FEW)
+    numpy = numpy_for(len(column))
     return None if numpy is None else Given(_whole_of(numpy, column, texts_of), 0, len(column))
 
 
@@ -282,8 +269,7 @@ def _whole_of(numpy: Any, column: Any, texts_of: TextsOf) -> Whole:
         return _of_list(numpy, column, texts_of, values)
     values = column.to_numpy() if hasattr(column, "to_numpy") else column
     forms = {"i": Numbers, "u": Numbers, "f": Floats, "M": Moments}
-    form = forms.get(values.dtype.kind)
-    return Whole(numpy, column, texts_of) if form is None else form(numpy, column, texts_of, values)
+    return forms.get(values.dtype.kind, Whole)(numpy, column, texts_of, values)
 
 
 def _of_list(numpy: Any, column: Any, texts_of: TextsOf, values: List[Any]) -> Whole:

@@ -41,7 +41,7 @@ class Limits:
         """How many vertices there may be beside so many kinds."""
         return min(MOST_VERTICES, self._product // kinds)
 
-    def _checked(self) -> "Limits":
+    def _checked(self) -> Limits:
         """Itself; raises `ValueError` where there can't be such limits."""
         within("kinds", self.kinds or 1, 1, MOST_KINDS)
         within("batches", self.batches or 1, 1, MOST_BATCHES)
@@ -73,7 +73,7 @@ class Limits:
         is_most = self._most_vertices(1) == MOST_VERTICES
         return "No store takes more" + ("" if is_most else ", but vertices beside smaller weights (Limits(weight=..))")
 
-    def _shape(self, vertices: int, kinds: int) -> "Limits":
+    def _shape(self, vertices: int, kinds: int) -> Limits:
         """The limits for a desk of so many vertices and kinds, for which there is room: with some room to grow."""
         least = max(vertices, self.vertices or 1)
         roomy = (it for it in (8, 16, 32, MOST_KINDS) if kinds <= it and it * least <= self._product)

@@ -6,8 +6,6 @@ each store and script. A name that has the form of an id goes as an id too, so n
 """
 from __future__ import annotations
 
-import base64
-import hashlib
 import re
 import threading
 from itertools import islice
@@ -31,6 +29,8 @@ def text_reason(text: str) -> Optional[str]:
 
 def id_of(text: str, turn: int = 0) -> str:
     """The id of a text. Of another turn it is another one: should two texts have one id, the second takes its next."""
+    import base64  # (most names need none of these, and they take long to be loaded)
+    import hashlib
     made = hashlib.blake2b(text.encode("utf-8"), digest_size=15, salt=turn.to_bytes(16, "big")).digest()
     return MARK + base64.urlsafe_b64encode(made).decode("ascii")
 

@@ -69,9 +69,9 @@ class Units(Generic[W, T]):
     `ValueError`."""
 
     weight_scale: Optional[int] = None
-    times: "Optional[Times]" = None
-    decimals: "Decimals" = "decimal"
-    rounding: "Optional[Rounding]" = None
+    times: Optional[Times] = None
+    decimals: Decimals = "decimal"
+    rounding: Optional[Rounding] = None
 
     if TYPE_CHECKING:
         scale: int
@@ -79,32 +79,32 @@ class Units(Generic[W, T]):
         are_plain: bool
 
         @overload
-        def __init__(self: "Units[int, int]", weight_scale: Literal[1], times: Literal["number"],
-                     decimals: "Decimals" = ..., rounding: "Optional[Rounding]" = ...) -> None: ...
+        def __init__(self: Units[int, int], weight_scale: Literal[1], times: Literal["number"],
+                     decimals: Decimals = ..., rounding: Optional[Rounding] = ...) -> None: ...
 
         @overload
-        def __init__(self: "Units[int, datetime]", weight_scale: Literal[1], times: Literal["iso"],
-                     decimals: "Decimals" = ..., rounding: "Optional[Rounding]" = ...) -> None: ...
+        def __init__(self: Units[int, datetime], weight_scale: Literal[1], times: Literal["iso"],
+                     decimals: Decimals = ..., rounding: Optional[Rounding] = ...) -> None: ...
 
         @overload
-        def __init__(self: "Units[float, int]", weight_scale: int, times: Optional[Literal["number"]] = ..., *,
-                     decimals: Literal["float"], rounding: "Optional[Rounding]" = ...) -> None: ...
+        def __init__(self: Units[float, int], weight_scale: int, times: Optional[Literal["number"]] = ..., *,
+                     decimals: Literal["float"], rounding: Optional[Rounding] = ...) -> None: ...
 
         @overload
-        def __init__(self: "Units[float, datetime]", weight_scale: int, times: Literal["iso"], decimals: Literal["float"],
-                     rounding: "Optional[Rounding]" = ...) -> None: ...
+        def __init__(self: Units[float, datetime], weight_scale: int, times: Literal["iso"], decimals: Literal["float"],
+                     rounding: Optional[Rounding] = ...) -> None: ...
 
         @overload
-        def __init__(self: "Units[Decimal, int]", weight_scale: int, times: Optional[Literal["number"]] = ...,
-                     decimals: Literal["decimal"] = ..., rounding: "Optional[Rounding]" = ...) -> None: ...
+        def __init__(self: Units[Decimal, int], weight_scale: int, times: Optional[Literal["number"]] = ...,
+                     decimals: Literal["decimal"] = ..., rounding: Optional[Rounding] = ...) -> None: ...
 
         @overload
-        def __init__(self: "Units[Decimal, datetime]", weight_scale: int, times: Literal["iso"],
-                     decimals: Literal["decimal"] = ..., rounding: "Optional[Rounding]" = ...) -> None: ...
+        def __init__(self: Units[Decimal, datetime], weight_scale: int, times: Literal["iso"],
+                     decimals: Literal["decimal"] = ..., rounding: Optional[Rounding] = ...) -> None: ...
 
         @overload
-        def __init__(self: "Units[Any, Any]", weight_scale: Optional[int] = ..., times: "Optional[Times]" = ...,
-                     decimals: "Decimals" = ..., rounding: "Optional[Rounding]" = ...) -> None: ...
+        def __init__(self: Units[Any, Any], weight_scale: Optional[int] = ..., times: Optional[Times] = ...,
+                     decimals: Decimals = ..., rounding: Optional[Rounding] = ...) -> None: ...
 
         def __init__(self, *given: Any, **named: Any) -> None: ...
 
@@ -114,6 +114,8 @@ class Units(Generic[W, T]):
             raise ValueError("times is 'number' or 'iso', decimals is 'decimal' or 'float'")
         if self.rounding not in (None, HALF_EVEN):
             raise ValueError(f"rounding is 'half-even' or None, and not {self.rounding!r}")
+        if not hasattr(scale, "__index__"):
+            raise TypeError(f"weight_scale is a whole number, as 100 for cents, and not {scale!r}")
         if not 1 <= scale <= records.MOST_WEIGHT or _places_of(scale) is None:
             raise ValueError(f"weight_scale is from 1 to 2^40, and divides a power of ten; {scale} doesn't")
         # (they are asked for at each operation)
@@ -124,12 +126,12 @@ class Units(Generic[W, T]):
         """Whether any of them says what the store's numbers mean."""
         return self.weight_scale is not None or self.times is not None
 
-    def _or_those(self, other: "Units[Any, Any]") -> "Units[Any, Any]":
+    def _or_those(self, other: Units[Any, Any]) -> Units[Any, Any]:
         """These, and of what isn't given here the other's."""
         return Units(other.weight_scale if self.weight_scale is None else self.weight_scale, self.times or other.times,
                      self.decimals, self.rounding or other.rounding)
 
-    def _settled(self) -> "Units[W, T]":
+    def _settled(self) -> Units[W, T]:
         """The same with a scale and times that are given."""
         return replace(self, weight_scale=self.scale, times=self.times or NUMBER)
 
@@ -141,11 +143,11 @@ class Units(Generic[W, T]):
         """Whether a part has so many decimals, and all numbers with as many are whole numbers of parts."""
         return bool(self.scale == 10 ** (_places_of(self.scale) or 0))
 
-    def _shows_as(self, other: "Units[Any, Any]") -> bool:
+    def _shows_as(self, other: Units[Any, Any]) -> bool:
         """Whether weights and times are the same for a user."""
         return self._same_as(other) and self.decimals == other.decimals
 
-    def _same_as(self, other: "Units[Any, Any]") -> bool:
+    def _same_as(self, other: Units[Any, Any]) -> bool:
         """Whether the program's numbers mean the same; how decimals are shown is apart."""
         return self.scale == other.scale and self.has_dates == other.has_dates
 
@@ -174,7 +176,7 @@ class Units(Generic[W, T]):
             return text
         return str(microseconds_of(text, is_end=is_end))
 
-    def _weights_of(self, texts: Sequence[str]) -> "Sequence[Optional[int]]":
+    def _weights_of(self, texts: Sequence[str]) -> Sequence[Optional[int]]:
         """The program's weights for many texts; `None` for what is none."""
         places = _places_of(self.scale) or 0
         found = None
@@ -191,7 +193,7 @@ class Units(Generic[W, T]):
             return None
         return None if records.weight_reason(whole) else int(whole)
 
-    def _times_of(self, texts: Sequence[str]) -> "Sequence[Optional[int]]":
+    def _times_of(self, texts: Sequence[str]) -> Sequence[Optional[int]]:
         """The program's times for many texts; `None` for what is none."""
         found = records.whole_numbers(texts, "Q", 18) if not self.has_dates else all_microseconds(texts)
         return found if found is not None else each_once(self._time_of, texts)
@@ -222,16 +224,16 @@ class Units(Generic[W, T]):
     def _all_times_to_user(self, times: Sequence[int]) -> Sequence[Any]:
         return times if not self.has_dates else each_once(self._time_to_user, times)
 
-    def _weights_as_text(self, weights: Sequence[int]) -> "Iterable[str]":
+    def _weights_as_text(self, weights: Sequence[int]) -> Iterable[str]:
         """Weights as they are printed."""
         return map(str, weights) if self.scale == 1 else each_once(lambda it: str(self._weight_to_user(it)), weights)
 
-    def _times_as_text(self, times: Sequence[int]) -> "Iterable[str]":
+    def _times_as_text(self, times: Sequence[int]) -> Iterable[str]:
         """Times as they are printed: numbers, or dates as `datetime.isoformat` has them."""
         return map(str, times) if not self.has_dates else each_once(lambda it: str(self._time_to_user(it).isoformat()), times)
 
     @property
-    def _weights_told(self) -> "Optional[Callable[[Sequence[int]], Sequence[Any]]]":
+    def _weights_told(self) -> Optional[Callable[[Sequence[int]], Sequence[Any]]]:
         """How a column of weights is told, where that isn't as it is."""
         return None if self.scale == 1 else self._all_weights_to_user
 
@@ -242,13 +244,13 @@ class Units(Generic[W, T]):
         return Edge(self._weight_to_user(weight), self._time_to_user(first), self._time_to_user(recent))
 
 
-def each_once(turn: Callable[[Any], Any], values: Sequence[Any]) -> "list[Any]":
+def each_once(turn: Callable[[Any], Any], values: Sequence[Any]) -> list[Any]:
     """The values turned; those that are the same are turned once."""
     turned = {it: turn(it) for it in set(values)}
     return list(map(turned.__getitem__, values))
 
 
-def _with_places(texts: Sequence[str], places: int) -> "Optional[array[int]]":
+def _with_places(texts: Sequence[str], places: int) -> Optional[array[int]]:
     """The parts that decimal numbers have, of which one has 10 to the power of so many places, where it is seen at once that each
     is such a number, within the limits; `None` for others, which may be some too."""
     signs = "".join(texts)
@@ -265,4 +267,11 @@ def _with_places(texts: Sequence[str], places: int) -> "Optional[array[int]]":
     return found if is_right and -most <= min(found) and max(found) <= most else None
 
 
-PLAIN: "Units[Any, Any]" = Units()
+PLAIN: Units[Any, Any] = Units()
+
+
+def units_given(units: Any) -> Units[Any, Any]:
+    """The units that a caller gives, or plain ones. Raises `TypeError` where they are none."""
+    if units is not None and not isinstance(units, Units):
+        raise TypeError(f"units are said as Units(weight_scale=100, times='iso'), and not as {units!r}")
+    return units or PLAIN
