@@ -120,6 +120,17 @@ class Copies(Case):
             self.assertEqual((fast.rows(), len(fast.codes)), (plain.rows(), text.count(",") and sum(it[1] == "," for it in
                                                                                                 text.splitlines())))
 
+    @HAVE_NUMPY
+    def test_which_scripts_are_read_at_once(self):
+        """Those of insertions and removals alone, without quotes, whose numbers aren't long; and as line by line."""
+        for text, is_at_once in (
+                ("i,k,a,b,-5,7\n", True), (f"r,k,a,b\ncommit\ncollect\ni,l,c,d,{1 << 40},{10 ** 18 - 1}\n", True),
+                ("a,k,a,b,1,2\n", False), ("i,k,a,b,1,2\nx,9\n", False), ('i,k,"a",b,1,2\n', False), ("i,k,a,b,1,2", False),
+                ("ii,k,a,b,1,2\n", False), ("i,k,a,b,1\n", False), ("i,k,a,b,1,2,3\n", False), ("r,k,a\n", False),
+                ("i,k,\u00e4,b,1,2\n", False), (f"i,k,a,b,1,{10 ** 18}\n", False)):
+            found = scripts._operations_at_once(numpy, text)
+            self.assertEqual(found and found.rows(), scripts.operations_in(text).rows() if is_at_once else None, text)
+
     def test_large_batches_restore_the_same(self):
         """In a store that grows they have as many operations as blocks are free, up to 65,536."""
         names = [f"n{it}" for it in range(9_000)]

@@ -113,8 +113,9 @@ class Feeds(Case):
         self.fault("a.csv: no column 'too'; the header has 'from', 'to', 'amount', 'when'. Say which", "a.csv", TRANSFERS,
                    columns=Columns("from", "too"))
         self.fault("a.csv:1: 1 fields, where the columns need 2", "a.csv", "a b\nc,d\n", columns=Columns(1, 2))
-        self.fault("there is no header", "a.csv", "a,b\n", header=False)
-        self.fault("a.csv: columns are named, and there is no header", "a.csv", "")
+        for text, header, why in (("a,b\n", False, "name them by number (from 1)"), ("\n", None, "name them by number (from 1)"),
+                                  ("", None, "the file is empty")):
+            self.fault(f"a.csv: columns are named, and there is no header: {why}", "a.csv", text, header=header)
         self.fault("a.txt:2: 1 fields, where an edge list has 2", "a.txt", "# x\n7\n")
         self.fault("a.mtx:1: no line `%%MatrixMarket", "a.mtx", "1 2 3\n")
         self.fault("is complex and hermitian", "a.mtx", "%%MatrixMarket matrix coordinate complex hermitian\n1 1 0\n")

@@ -140,6 +140,16 @@ class OfAFile(Case):
 
 
 @unittest.skipUnless(optional("numpy"), "numpy is not there")
+class WithoutNumpy(unittest.TestCase):
+    def test_lines_that_are_split_at_once(self):
+        """Those that have as many fields each, and no quotes."""
+        for text, columns in (("a,b\nc,d\n", [["a", "c"], ["b", "d"]]), ("a,b\r\nc,d", [["a", "c"], ["b", "d"]]),
+                              ("a,,b\n", [["a"], [""], ["b"]]), ("\u00e4,b\n", [["\u00e4"], ["b"]]), ("a,b\nc\n", []),
+                              ("a,b\nc,d,e\n", []), ("a\nb\n", []), ('a,"b"\nc,d\n', []), ("a,b\rc,d\n", [])):
+            with mock.patch.object(delimited, "fields_of", return_value=None):
+                self.assertEqual(list(map(list, delimited.even_columns(text, ","))), columns, text)
+
+
 class Numbers(unittest.TestCase):
     def some(self, made):
         """Digits of any length, some with a sign, and some with what is none."""

@@ -250,12 +250,15 @@ class Following(Case):
             next(followed)
         self.assertIn("can't be taken, and those before line 3 are in, and none behind it\n", str(told.exception))
         self.assertIn("bad.csv:3: BadName: target '': a name has at least one byte", str(told.exception))
-        self.assertEqual(followed.store.stat().edges, 2)
+        self.assertEqual((followed.store.stat().edges, followed._told), (2, f"{followed.name}: 2 rows to line 2 are in"))
         followed = self.follow(self.file("bad.csv", text), until_end=True, skip_bad=True)
         (step,) = followed
         self.assertEqual((step.rows, step.bad, step.line), (3, 2, 5))
+        self.assertEqual(followed._told, f"{followed.name}: 3 rows to line 5 are in; 2 bad rows passed over")
         self.assertEqual([(it.place.line, it.word, it.field) for it in followed._faults],
                          [(3, "BadName", "target"), (4, "BadWeight", "amount")])
+        followed = self.follow(self.file("good.csv", "a,b,1,1\n"), until_end=True, skip_bad=True)
+        self.assertEqual(([it.bad for it in followed], followed._told), ([0], f"{followed.name}: 1 rows to line 1 are in"))
 
     def test_what_is_refused(self):
         """The error says which rows aren't in; they are pending, and the next step goes on."""
@@ -353,6 +356,15 @@ class Following(Case):
                 self.followed.close()
                 self.store._kill()
         return places(Scene, Scene.go_on, Scene.is_right)
+
+    def test_a_call_that_nobody_waits_for(self):
+        """It isn't made where it was left before it was begun."""
+        for is_left, count in ((False, 1), (True, 0)):
+            made = mock.Mock()
+            call = calls.Call(made)
+            call.left = is_left
+            call.make()
+            self.assertEqual((made.call_count, call.done.locked()), (count, False))
 
     def test_each_step_is_given_once(self):
         count, wrong = self.places()

@@ -54,6 +54,18 @@ class GivingBack(Case):
             with self.assertRaises(misteluk.SessionClosed):
                 kept[0].degrees()
 
+    def test_a_store_that_was_closed(self) -> None:
+        """What its desk and the versions of its sessions had is given back by then, also where somebody keeps a session."""
+        for is_kept in (False, True):
+            store = self.store("insert k a b 5 1")
+            session, library = store.open(), store._engine.library
+            name, raw = ("version_free", session._held._first.raw) if is_kept else ("desk_free", session._held.desk.raw)
+            if not is_kept:
+                del session
+            with mock.patch.object(library, name, wraps=getattr(library, name)) as freed:
+                store.close()
+            self.assertIn(mock.call(raw), freed.call_args_list)
+
     def test_threads_copy_a_version_s_handle_one_at_a_time(self) -> None:
         """A handle takes one call at a time, also the first one, which each thread copies."""
         store = self.store("insert k a b 5 1")

@@ -76,7 +76,7 @@ class Reopened(JournalCase):
 
     def test_a_renewal_and_a_rebase_keep_numbers(self):
         store = self.fed(5)
-        store.compact()
+        self.assertEqual(store.compact().version, 5)
         with store.open() as session:
             self.assertEqual(store.compact(session).version, 5)
         self.assertEqual(told(store), Model().upto(5).told())

@@ -16,7 +16,7 @@ from misteluk.engine.protocol import WHOLE
 from misteluk.engine.waiting import WaitingEngine
 from misteluk.errors import JournalFault, NotWritten, OverLimit
 from misteluk.feeds.steps import FeedMark, FeedPlace
-from misteluk.journal import checking, journal, tables
+from misteluk.journal import checking, compaction, journal, tables
 from misteluk.journal.checking import check
 from misteluk.journal.logs import log
 from misteluk.journal.replica import begun, read_added, told_added, told_base
@@ -111,11 +111,13 @@ class Opened(JournalCase):
                 for _ in range(2):
                     store.add("k", "Анна", "b")
                     store.commit()
-        with self.opened() as store:  # (a table of its own has it too)
-            store.load(survey([("Анна", "b"), ("Ж Ж", "b")], by="add"), by="add")
-        *before, last = [it for it, in self.rows("SELECT texts FROM batches ORDER BY version")]
+        with self.opened() as store:  # (a table of its own has them too)
+            store.add("k", "Ж Ж", "b")
+            store.commit()
+            store.load(survey([("Анна", "b"), ("Ж Ж", "b"), ("Э Э", "b")], by="add"), by="add")
+        *before, one, last = [it for it, in self.rows("SELECT texts FROM batches ORDER BY version")]
         self.assertEqual([it is None for it in before], [False, True, True, True])
-        self.assertEqual(list(json.loads(last).values()), ["Ж Ж"])
+        self.assertEqual([list(json.loads(it).values()) for it in (one, last)], [["Ж Ж"], ["Э Э"]])
 
     def test_names_of_a_survey_made_apart(self):
         """Whose table has texts of its own, beside those that the store has by then."""
@@ -251,12 +253,17 @@ class Faults(JournalCase):
             self.assertRaisesRegex(StoreError, "the store is closed", store.stat)
 
     def test_pages_are_given_back(self):
-        store = self.fed(12)
+        """By steps, behind each of which those who commit have their turn."""
+        store, shrink = self.fed(12), journal.Journal.shrink
         store.file.compact()
         put(store, batch(13))
-        with mock.patch.object(journal, "AT_ONCE", 1):
+        with mock.patch.object(journal, "AT_ONCE", 1), mock.patch("time.sleep") as rested, \
+                mock.patch.object(compaction, "_step", wraps=compaction._step) as stepped, \
+                mock.patch.object(journal.Journal, "shrink", autospec=True, side_effect=shrink) as shrunk:
             store.file.compact(history=0)
         self.assertEqual(self.rows("PRAGMA freelist_count"), [(0,)])
+        self.assertEqual(rested.call_args_list, [mock.call(0.001)] * (stepped.call_count + shrunk.call_count - 1))
+        self.assertGreater(shrunk.call_count, 2)
 
     def test_a_check_beside_the_writer(self):
         """All that it reads is of one moment."""

@@ -8,9 +8,10 @@ from support import Case
 from misteluk import Limits
 from misteluk.engine.interface import Code
 from misteluk.engine.operations import Operations, Post
+from misteluk.engine.protocol import Arrays
 from misteluk.errors import JournalFault, NoMemory, SequenceTaken
 from misteluk.feeds.steps import FeedMark, FeedPlace
-from misteluk.journal import beside, scripts
+from misteluk.journal import bases, beside, scripts
 from misteluk.journal.beside import Beside
 from misteluk.journal.opening import make_engine
 from misteluk.journal.passing import Passing
@@ -67,6 +68,13 @@ class Sent(Case):
             for at in range(5):
                 sources.take(self.written(at, b"x", f"key {at}"), self.FIRST)
         self.assertEqual([it for _, it in sources.keys], ["key 2", "key 3", "key 4"])
+
+    def test_the_last_files_are_known(self):
+        """So many of a path; a number of turn that is missing takes none away."""
+        sources = Sources()
+        for path, turn in (("/a", 1), ("/b", 1), *(("/a", it) for it in range(2, 19))):
+            sources.take(self.written(1, b"x", feed=FeedMark(path, (1, turn), 0, turn=turn).written(FeedPlace())), self.FIRST)
+        self.assertEqual(list(sources.feeds), ["1 /b", *(f"{it} /a" for it in range(3, 19))])
 
     def test_feeds(self):
         """How far each file is in, by the turn in which it was followed."""
@@ -159,13 +167,25 @@ class Writers(unittest.TestCase):
         """Each operation, alone and with others, and names that want quotes."""
         insert, add, quoted = (0, "k", "a", "b", -5, 7), (1, "k", "a", "c", 2, 8), (0, "k", 'a"', "b", 1, 1)
         remove, expire = (2, "k", "a", "b", 0, 0), (3, "", "", "", 0, 9)
-        for rows, text in (([insert], b"i,k,a,b,-5,7\n"), ([add], b"a,k,a,c,2,8\n"), ([remove], b"r,k,a,b\n"),
-                           ([expire], b"x,9\n"), ([insert, add], b"i,k,a,b,-5,7\na,k,a,c,2,8\n"),
-                           ([remove, expire], b"r,k,a,b\nx,9\n"),
-                           ([quoted, add], b'i,k,"a""",b,1,1\na,k,a,c,2,8\n'),
-                           ([insert, expire, remove, add], b"i,k,a,b,-5,7\nx,9\nr,k,a,b\na,k,a,c,2,8\n")):
+        for rows, text, is_at_once in (
+                ([insert], b"i,k,a,b,-5,7\n", True), ([add], b"a,k,a,c,2,8\n", True), ([remove], b"r,k,a,b\n", False),
+                ([expire], b"x,9\n", False), ([insert, add], b"i,k,a,b,-5,7\na,k,a,c,2,8\n", True),
+                ([remove, expire], b"r,k,a,b\nx,9\n", False), ([quoted, add], b'i,k,"a""",b,1,1\na,k,a,c,2,8\n', False),
+                ([insert, expire, remove, add], b"i,k,a,b,-5,7\nx,9\nr,k,a,b\na,k,a,c,2,8\n", False)):
             self.assertEqual(self.records_of(rows), text)
-            self.assertEqual([tuple(it) for it in scripts.operations_of(text).rows], rows)
+            found = scripts.operations_of(text)
+            self.assertEqual(([tuple(it) for it in found.rows], found._rows is None), (rows, is_at_once))
+
+
+class Bases(unittest.TestCase):
+    def test_how_much_room_they_have(self):
+        """That of the edges, or one block for each two names and for each kind, where this is more; and that of a batch."""
+        for kinds, names, degrees, blocks in ((2, 2, {(0, 0): 33, (1, 0): 32, (0, 1): 1}, 4), (2, 10, {(0, 0): 1}, 7),
+                                              (2, 11, {}, 7), (1, 3, {(0, 0): 65}, 3)):
+            ends = [it for it, count in degrees.items() for _ in range(count)]
+            edges = Arrays.of(len(ends))._replace(kinds=[kind for kind, _ in ends], sources=[source for _, source in ends])
+            base = bases.Base([""] * kinds, [""] * names, edges, {}, Sources())
+            self.assertEqual(bases._room(base), blocks + 65_536)
 
 
 class Engines(unittest.TestCase):

@@ -12,6 +12,7 @@ import subprocess
 import sys
 import threading
 import unittest
+from array import array
 from contextlib import ExitStack
 from unittest import mock
 
@@ -22,6 +23,7 @@ from misteluk import Edge, Store, errors
 from misteluk.engine import asked, calling, finding, held, interface
 from misteluk.engine.finding import OF_LIBRARY, find_library
 from misteluk.engine.guard import Guard, Notes, Owned, alone
+from misteluk.engine.protocol import WHOLE
 
 SESSION = []
 
@@ -96,6 +98,25 @@ class InProcess(Case):
             store.insert("m", "z" * 64, "a")
             store.commit()
             self.assertEqual((list(store.open().degrees())[-2:], sizes.call_count), ([names[-1], "z" * 64], 1))
+
+    def test_the_edges_of_a_few(self):
+        """Of a vertex that has more than its row has room for at first they come as well, unless they are more than is said."""
+        held_version = self.store(*(f"insert k hub t{it} 1 1" for it in range(33))).open()._held
+        for most, count in ((None, 33), (33, 33), (32, None), (34, 33)):
+            with mock.patch.object(held_version.kept, "rows", []):
+                found = held_version.few_out_of(WHOLE, "hub", most)
+            self.assertEqual(found and found.size, count, most)
+
+    def test_a_version_is_indexed_once(self):
+        """Where a walk goes along edges and against them."""
+        store = self.store("insert k a b 1 1")
+        session, library = store.open(), store._engine.library
+        with mock.patch.object(library, "version_index", wraps=library.version_index) as indexed:
+            for is_directed, count in ((True, 0), (False, 1), (False, 1)):
+                session.neighborhood("a", 2, directed=is_directed)
+                self.assertEqual(indexed.call_count, count)
+            with store.open() as other:
+                self.assertEqual((other.path("a", "b"), indexed.call_count), (["a", "b"], 2))
 
     def test_a_handle_is_taken_again(self):
         """Calls that come one after another have one copy of a version's handle between them."""
@@ -223,6 +244,18 @@ class InProcess(Case):
             del session
             gc.collect()
             self.assertEqual(store.collect().recycled, 20)
+
+
+class Tables(unittest.TestCase):
+    def test_which_are_kept(self):
+        """The latest ones of so many bytes together, or the last one alone; one that is asked for is the latest again."""
+        for most, steps, kept in ((24, "abc", "bc"), (23, "abc", "c"), (1, "abc", "c"), (36, "abc", "abc"), (24, "aab", "ab"),
+                                  (24, "abAc", "ac"), (24, "aBbc", "bc")):
+            answers = asked.Answers()
+            with mock.patch.object(asked, "MOST_KEPT", most):
+                for it in steps:
+                    answers.put(it, [array("I", (1, 2, 3))]) if it.islower() else answers.get(it.lower())
+            self.assertEqual("".join(it for it in "abc" if answers.get(it)), kept, (most, steps))
 
 
 class Choice(Case):

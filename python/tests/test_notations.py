@@ -10,7 +10,7 @@ from support import HERE, Case, feed_of
 import misteluk
 from misteluk import Columns, Units
 from misteluk.feeds.feed import Feed
-from misteluk.feeds import notations
+from misteluk.feeds import advice, notations
 
 ONE_TO_FOUR = Columns(1, 2, weight=3, time=4)
 
@@ -94,6 +94,14 @@ class Advice(Case):
         with self.assertRaises(misteluk.BadRows) as fault:
             self.store().load(str(self.room / "a.csv"), by="add", columns=columns, delimiter=";", **options)
         return str(fault.exception)
+
+    def test_sums_of_floats(self):
+        """Where rows are no file's, and weights have parts."""
+        sums = "Sums of floats have more digits than were added: round them before, as by frame.round(2)"
+        for encoding, scale, value, told in ((None, 100, "0.30000000000000004", sums), (None, 2, "0.30000000000000004", sums),
+                                             (None, 1, "0.30000000000000004", ""), ("utf-8", 100, "0.30000000000000004", ""),
+                                             (None, 100, "0.305", ""), (None, 100, "0.125000000", "")):
+            self.assertEqual(advice._of_weight(value, advice.Reading(encoding, None, Units(scale)), 0), told, (encoding, scale))
 
     def test_it_is_by_what_stands_there(self):
         told = "read by decimal=',' and Units(weight_scale=100) (--decimal , --weight-scale 100)"

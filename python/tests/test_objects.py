@@ -5,13 +5,15 @@ import unittest
 import warnings
 from datetime import date
 from decimal import Decimal
+from unittest import mock
 
 from support import Case, feed_of, optional
 
 import misteluk
 from misteluk import Columns, Edge, Units, errors
 from misteluk.feeds.objects import from_networkx
-from misteluk.feeds import objects
+from misteluk.feeds.opening import open_feed
+from misteluk.feeds import feed as feeds, objects
 
 OF_TRANSFERS = Columns("from", "to", None, "amount", "when", "transfer")
 
@@ -33,6 +35,14 @@ class Missing(Case):
                          ["nan", "None", "0", "0", "7", "7.5", "False"])
 
 
+    def test_the_row_of_what_is_no_value(self):
+        """Where columns aren't taken whole, since one has values of several types."""
+        for size in (1, 2, 1_024):
+            with mock.patch.object(feeds, "ROWS_AT_ONCE", size), self.assertRaisesRegex(
+                    misteluk.errors.FeedFault, "^columns:3: b'c': bytes are no text"):
+                list(open_feed({"source": ["a", 5.5, b"c", "d"], "target": ["x", "y", None, "w"]}).rows)
+
+
 @unittest.skipUnless(optional("networkx"), "networkx is not there")
 class Graphs(Case):
     def test_networkx(self):
@@ -44,6 +54,8 @@ class Graphs(Case):
                          [(1, "link", "1", "b", "7", "9"), (2, "other", "b", "c", "1", "0")])
         both = from_networkx(networkx.Graph([(1, 2), (3, 3)]))
         self.assertEqual([it[2:4] for it in both.rows], [("1", "2"), ("2", "1"), ("3", "3")])
+        both = from_networkx(networkx.Graph([(1, 2, {"weight": 5, "time": 9, "kind": "k"})]))
+        self.assertEqual([it[1:] for it in both.rows], [("k", "1", "2", "5", "9"), ("k", "2", "1", "5", "9")])
         one = from_networkx(networkx.Graph([(1, 2)]), both_ways=False)
         self.assertEqual(len(list(one.rows)), 1)
         with self.assertRaisesRegex(misteluk.errors.FeedFault, "two nodes of the graph have one name"):

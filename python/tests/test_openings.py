@@ -17,7 +17,7 @@ from support import Case, optional
 import misteluk
 from misteluk import Edge, Limits, Store, ledger, saving
 from misteluk.engine import library, openings
-from misteluk.engine.operations import ADD, INSERT, Numbered
+from misteluk.engine.operations import ADD, INSERT, REMOVE, Numbered
 from misteluk.feeds import loading
 from misteluk.values import records
 
@@ -236,6 +236,23 @@ class Overflows(Case):
                 self.assertTrue(found or not self.overflows(operations, most), (rows, most))
                 sure += not found
         self.assertGreater(sure, 200)
+
+    def test_borders(self):
+        """The greatest weight is none too many, nor is a sum that comes to it."""
+        for code, weights, told in ((INSERT, (40, -40), False), (INSERT, (41,), True), (INSERT, (-41,), True),
+                                    (ADD, (40,), False), (ADD, (20, 20), False), (ADD, (20, 21), True), (ADD, (41,), True)):
+            operations = Numbered.of([(code, "k", "a", "b", it, 0) for it in weights])
+            for way in (optional("numpy"), None):
+                with mock.patch.object(openings, "numpy_for", lambda *_: way):
+                    self.assertEqual(openings.may_overflow(operations, 40), told, (code, weights, way))
+
+    def test_how_many_batches_they_count_as(self):
+        """Where all of them find room; none where one takes an edge away."""
+        rows = [(INSERT, "k", f"a{it}", "b", 1, 0) for it in range(4_097)]
+        for more, grows, free, count in (((), True, 0, 1), ((), False, 8_192, 1), ((), False, 8_191, 0),
+                                         (((REMOVE, "k", "a1", "b", 0, 0),), True, 0, 0)):
+            engine = mock.Mock(grows=grows, limits=Limits(), **{"stat.return_value.free": free})
+            self.assertEqual(openings.as_batches(engine, Numbered.of([*rows, *more])), count)
 
     @unittest.skipUnless(optional("numpy"), "numpy is not there")
     def test_amounts_of_many_edges_are_sure(self):

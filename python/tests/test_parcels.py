@@ -15,7 +15,7 @@ from misteluk.feeds import parcels, pipes
 from misteluk.feeds.progress import Progress, no_collection
 from misteluk.feeds.rejects import Rejected
 from misteluk.feeds.spans import ahead_time, shown_length
-from misteluk.feeds.steps import Followed, FeedPlace
+from misteluk.feeds.steps import FeedMark, FeedPlace, Followed
 from misteluk.values.answers import Commit
 from misteluk.values.units import Units
 
@@ -117,6 +117,7 @@ class Steps(unittest.TestCase):
 
     def test_where_a_feed_begins(self):
         self.assertEqual(FeedPlace(), (0, 0, -1, 0, "", 0, 0, False, 0, 0, 0))
+        self.assertEqual(FeedMark("/f", (1, 2), 7), ("/f", (1, 2), 7, FeedPlace(), 0))
 
     def test_lengths_that_are_shown(self):
         """In the largest unit of which they are two or more; a year has 365.2425 days."""

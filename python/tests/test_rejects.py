@@ -12,7 +12,8 @@ from support import Case, CommandCase, as_soon_as
 
 import misteluk
 from misteluk import Columns, Rejected, Units, errors
-from misteluk.feeds import rejects
+from misteluk.feeds import rejects, surveys
+from misteluk.feeds.terms import Terms
 
 ROWS = {"by": "add", "columns": Columns(1, 2, weight=3, time=4), "progress": False}
 NO_NUMBER = "amount 'x': a weight is a whole number, of at most 19 digits"
@@ -50,6 +51,33 @@ class Rejects(Case):
         self.assertEqual((found.bad, found.last_bad), (2, Rejected(3, NO_NUMBER, "c,d,x,4")))
         found = self.load(self.file("good.csv", "a,b,1,1\n"), skip_bad=True, **ROWS)[1]
         self.assertEqual((found.bad, found.last_bad), (0, None))
+
+    def test_rows_that_are_there_already(self):
+        """They come again behind what is in, in their order; in a file that was moved away all is looked at."""
+        for encoding in ("utf-8", "utf-16"):
+            path, text = self.room / f"{encoding}.csv", "a,b\nc,d\ne,f\n"
+            kept = rejects.Rejects(path, encoding)
+            kept.append(rejects.Lines(1, "", ["a,b\n"]))
+            size = kept.size
+            kept.append(rejects.Lines(2, "", ["c,d\n", "e,f\n"]))
+            for place, rows, more in ((size, ["c,d\n"], ""), (1 << 20, ["a,b\n", "c,d\n"], ""),
+                                      (size, ["c,d\n", "e,f\n", "g,h\n"], "g,h\n"), (size, ["a,b\n"], "a,b\n")):
+                again, text = rejects.Rejects(path, encoding), text + more
+                again.go_on(place)
+                again.append(rejects.Lines(1, "", rows))
+                self.assertEqual(path.read_text(encoding=encoding), text, (encoding, place, rows))
+
+    def test_what_can_t_be_written_as_it_is(self):
+        """A sign that the encoding hasn't has its escape; and standard input may be the file itself."""
+        path = self.room / "r.csv"
+        rejects.Rejects(path, "latin-1").append(rejects.Lines(1, "", ["\u0416,\u00e4\n"]))
+        self.assertEqual(path.read_bytes(), b"\\u0416,\xe4\n")
+        before = os.dup(0)
+        self.addCleanup(os.close, before)
+        self.addCleanup(os.dup2, before, 0)
+        with open(path) as file:
+            os.dup2(file.fileno(), 0)
+        self.assertRaisesRegex(ValueError, "is the feed itself", rejects.Rejects, path, "utf-8", "-")
 
     def test_how_much_of_a_row_is_told(self):
         for size, told in ((199, "x" * 199), (200, "x" * 200), (201, "x" * 200 + " ..")):
@@ -214,6 +242,13 @@ class FollowedFeeds(Case):
         for options, rows in (({}, 4), ({"keep": "14d", "ahead": "2d"}, 3), ({"ahead": "1h"}, 1), ({"ahead": "90000d"}, 4)):
             (step,) = self.follow(path, units=Units(times="iso"), skip_bad=True, until_end=True, **options)
             self.assertEqual(step.rows, rows, options)
+
+    def test_the_last_time_that_is_not_too_far(self):
+        count = surveys.Count("f", "add", 9, Terms())
+        count.ahead = 10
+        with mock.patch.object(surveys, "_now", return_value=100):
+            for times, wanted in (([110, 5, None], [110, 5, None]), ([110, 111, None, 5], [110, None, None, 5])):
+                self.assertEqual(count._not_too_far(times), wanted)
 
     def test_numbers_have_no_clock(self):
         path = self.file("f.csv", f"a,b,1,1\nc,d,1,{10 ** 18}\n")

@@ -2,6 +2,7 @@
 import asyncio
 import errno
 import json
+import pathlib
 import socket
 import threading
 import time
@@ -14,6 +15,7 @@ from support import as_soon_as, row
 import misteluk
 from misteluk import AsyncSession, Edge, Units, connect
 from misteluk.errors import Busy
+from misteluk.page.page import style
 from misteluk.serve.page import FILES
 from misteluk.serve.checking import checked_operations
 from misteluk.serve.server import Address
@@ -42,6 +44,14 @@ class Answers(ServeCase):
         self.assertEqual(dict(self.rows_of("/v1/within?vertex=ben&hops=1&direction=both")), {"ben": 0, "funnel": 1})
         self.assertEqual(self.rows_of("/v1/names?like=N"), [("ana",), ("ben",), ("funnel",)])
         self.assertIn(b"Around funnel", self.ask("/v1/view?vertex=funnel").body)
+
+    def test_the_page_s_files(self):
+        """Each as it stands in the package; before the page's style stands that of a view."""
+        self.serve()
+        for path, (name, media) in FILES.items():
+            found, before = self.ask(path), style().encode("utf-8") if name == "live.css" else b""
+            text = pathlib.Path(misteluk.__file__).with_name("serve") / name
+            self.assertEqual((found.headers["content-type"], found.body), (media, before + text.read_bytes()), path)
 
     def test_an_address_that_is_taken(self):
         """The fault says which."""

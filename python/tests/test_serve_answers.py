@@ -7,19 +7,23 @@ import os
 import threading
 import time
 import unittest
+from contextlib import ExitStack
 
 from described import faults, wrong
-from serving import FEED, HAS_PACKAGES, ServeCase
+from serving import FEED, HAS_PACKAGES, NO_PACKAGES, ServeCase
 
 from misteluk import Units
 from misteluk.serve import schemas
-from misteluk.serve.limits import ServerLimits
-from misteluk.serve.people import People
-from misteluk.serve.questions import QUESTIONS
+from misteluk.serve.limits import BYTES_AT_ONCE, ServerLimits
+from misteluk.serve.openapi import described
+from misteluk.serve.people import EVERYONE, People, Person
+from misteluk.serve.questions import QUESTIONS, Parameter
 from misteluk.serve.tables import wants_csv
 
 if HAS_PACKAGES:
     from misteluk.serve import news
+    from misteluk.serve.board import Full
+    from misteluk.serve.flow import Flow, Shares
 
 ODD = ('a "quoted" name', "a,b", "line\nbreak", "Иванов Пётр")
 ASKED = {"out_of": "vertex=ana", "into": "vertex=funnel", "levels": "source=ana", "within": "vertex=ana&hops=2"}
@@ -215,6 +219,63 @@ class Described(unittest.TestCase):
         self.assertTrue(wrong("GET", "/v1/stat?after=1", 200, "application/json", stat))
         self.assertTrue(wrong("GET", "/v1/stat", 299, "application/json", stat))
         self.assertTrue(wrong("GET", "/v1/edges", 200, "text/html", b""))
+
+    def test_what_calls_are_asked_with(self):
+        paths, whole = described()["paths"], {"type": "integer", "minimum": 0}
+        for path, method, name, place, is_needed, schema in (
+                ("/v1/within", "get", "vertex", "query", True, {"type": "string"}),
+                ("/v1/within", "get", "hops", "query", True, {**whole, "maximum": 1_000}),
+                ("/v1/within", "get", "direction", "query", False, {"type": "string", "enum": ["out", "both"]}),
+                ("/v1/stat", "get", "after", "query", False, whole), ("/v1/sessions", "post", "version", "query", False, whole),
+                ("/v1/rows", "post", "Idempotency-Key", "header", False, {"type": "string"}),
+                ("/v1/feeder/{feeder}/batches/{number}", "delete", "number", "path", True, {"type": "string"})):
+            found, = (it for it in paths[path][method]["parameters"] if it["name"] == name)
+            self.assertEqual((found["in"], found["required"], found["schema"]), (place, is_needed, schema), (path, name))
+        calls = {f"{method} {path}": call for path, methods in paths.items() for method, call in methods.items()}
+        self.assertEqual({it: call["requestBody"]["required"] for it, call in calls.items() if "requestBody" in call},
+                         dict.fromkeys(("post /v1/sessions/{session}/ask", "post /v1/ask", "post /v1/rows",
+                                        "post /v1/feeder/{feeder}/batches/{number}"), True))
+        self.assertEqual([it for it, call in calls.items() if '"found"' in json.dumps(call)], ["get /v1/names"])
+
+
+class Parameters(unittest.TestCase):
+    NUMBER, PART = Parameter("version", "", least=0), Parameter("top", "", least=1, most=9)
+    WAY, NAME = Parameter("way", "", choices=("out", "both")), Parameter("name", "")
+
+    def test_what_is_read(self):
+        for it, text, value in ((self.NUMBER, "0", 0), (self.NUMBER, "9" * 19, 10**19 - 1), (self.PART, "1", 1),
+                                (self.PART, "9", 9), (self.WAY, "both", "both"), (self.NAME, "7", "7"), (self.NAME, "", "")):
+            self.assertEqual(it.read(text), value)
+        for it, texts, why in ((self.NUMBER, ("1" + "0" * 19, "-1", "", "x", "\u0667"), "version is a whole number from 0$"),
+                               (self.PART, ("0", "10"), "top is a whole number from 1 to 9$"),
+                               (self.WAY, ("in", ""), "way is one of out, both$")):
+            for text in texts:
+                self.assertRaisesRegex(ValueError, why, it.read, text)
+
+
+@unittest.skipUnless(HAS_PACKAGES, NO_PACKAGES)
+class Flows(unittest.TestCase):
+    def test_how_much_is_told_at_once(self):
+        """Parts together, of so many bytes at least, or all that are left."""
+        most = BYTES_AT_ONCE
+        for sizes, wanted in (((most - 1, 1, 5), [(most, True), (5, False)]), ((most - 1, 2), [(most + 1, True), (0, False)]),
+                              ((7, 8), [(15, False)]), ((), [(0, False)])):
+            flow, found = Flow(iter([bytes(it) for it in sizes])), []
+            while not found or found[-1][1]:
+                part, is_more = flow.more()
+                found.append((len(part), is_more))
+            self.assertEqual(found, wanted)
+
+    def test_a_person_s_share(self):
+        shares, ann = Shares(3), Person("ann", "read")
+        with ExitStack() as stack:
+            for _ in range(3):
+                stack.enter_context(shares.one(ann))
+                stack.enter_context(shares.one(EVERYONE))
+            with self.assertRaisesRegex(Full, "ann has 3 questions under way") as caught:
+                stack.enter_context(shares.one(ann))
+            stack.enter_context(shares.one(Person("ben", "read")))
+        self.assertEqual((caught.exception.after, dict(shares._under_way)), (1, {}))
 
 
 if __name__ == "__main__":

@@ -17,7 +17,7 @@ from support import as_soon_as
 
 import misteluk
 from misteluk import Columns, Units, connect
-from misteluk.feeds import apart, parcels
+from misteluk.feeds import apart, parcels, reader
 from misteluk.serve.server import Server
 
 AS_ROWS = ("--add", "--source", "1", "--target", "2", "--weight", "3", "--time", "4", "--every", "10ms")
@@ -74,6 +74,12 @@ class Parcels(unittest.TestCase):
         data = parcels.packed({"rows": 1}, [array("I", [7])])
         for size in range(1, len(data)):
             self.assertEqual(self.received(data[:size]), (None, None), size)
+
+    def test_where_what_is_read_begins(self):
+        """Behind the lines that were in before."""
+        following, outbox = mock.MagicMock(**{"_place.done": 7}), mock.Mock()
+        reader.read(following, outbox)
+        self.assertEqual((outbox.first, outbox.mock_calls), (8, [mock.call.end(is_half=following._ended_half)]))
 
 
 class Apart(FollowCase):

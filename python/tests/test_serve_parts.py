@@ -318,6 +318,11 @@ class Running(ServeCase):
                 server._sweep(over)
             self.assertEqual((over.wait.call_args_list, swept.call_count), ([mock.call(seconds)] * 3, 2))
 
+    def test_how_fast_it_is_fed(self):
+        server = self.serve()
+        with mock.patch.object(type(server.feeding.rate), "a_second", return_value=1.26):
+            self.assertEqual(server._api._counted()["rows_a_second"], 1.3)
+
     def threads(self, method, path, body=None):
         """By which threads a request is answered."""
         api, seen = self.server._api, []
@@ -346,12 +351,14 @@ class Running(ServeCase):
         self.fed()
         session = self.post("/v1/sessions").json["session"]
         ask, edge = f"/v1/sessions/{session}/ask", "/v1/edge?kind=transfer&source=ana&target=funnel"
-        ends = b'{"call": "found", "ends": [%s]}' % b", ".join([b'["transfer", "ana", "funnel"]'] * 65)
+        many, few = (b'{"call": "found", "ends": [%s]}' % b", ".join([b'["transfer", "ana", "funnel"]'] * it) for it in (65, 64))
+        table = b'{"call": "degrees"}'
         for method, path, body, wanted in (
                 ("GET", edge, None, []), ("GET", "/v1/out_of?vertex=ana", None, ["quick"]),
                 ("GET", "/v1/edges", None, ["slow"]), ("GET", "/v1/levels?source=ana", None, ["slow"]),
                 ("GET", "/v1/into?vertex=funnel", None, ["slow"]), ("POST", "/v1/ask", b'{"questions": []}', ["slow"]),
-                ("POST", ask, b'{"call": "edges"}', ["slow"]), ("POST", ask, ends, ["quick"]),
+                ("POST", ask, b'{"call": "edges"}', ["slow"]), ("POST", ask, many, ["quick"]), ("POST", ask, few, []),
+                ("POST", ask, b'{"call": "out_of", "name": "ana"}', []), ("POST", ask, table, ["slow"]), ("POST", ask, table, []),
                 ("GET", "/v1/sessions", None, ["quick"]), ("PUT", f"/v1/sessions/{session}", None, ["held"]),
                 ("GET", "/metrics", None, ["quick"]), ("POST", "/v1/feeder", None, ["feed"])):
             self.assertEqual(self.threads(method, path, body), wanted, path)

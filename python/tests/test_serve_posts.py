@@ -89,6 +89,8 @@ class Readers(unittest.TestCase):
         self.assertRaises(ValueError, lambda: list(bodies.rows_of_json(twice)))
         text = 'add,"a ""b""\n\n,c",d\r\n\n\nexpire,5\n'.encode() * 3_000
         self.assertEqual(list(bodies.rows_of_csv(text)), [("add", 'a "b"\n\n,c', "d"), ("expire", "5")] * 3_000)
+        for data, row, byte in ((b"\xff", 1, "0xff"), (b"a,b\n\n\nc,\xe4\n", 2, "0xe4"), (b'"a\nb",c\n"d\n\x80"', 2, "0x80")):
+            self.assertRaisesRegex(ValueError, f"^row {row}: byte {byte} is no UTF-8$", lambda: list(bodies.rows_of_csv(data)))
 
     def test_no_step_is_long(self):
         """No value that one step reads is longer than a row may be; long texts outside of rows are."""

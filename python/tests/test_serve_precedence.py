@@ -63,10 +63,11 @@ class OfFeed(unittest.TestCase):
         self.assertEqual(order, ["batch", *["question"] * 50])
 
     def test_it_waits_no_longer_than_its_patience(self) -> None:
-        with self.precedence.of_feed():
-            waited = self.waited(self.precedence.turn)
-        self.assertGreaterEqual(waited, PATIENCE)
-        self.assertLess(waited, LATE)
+        for _ in range(2):  # (each time on another loop)
+            with self.precedence.of_feed():
+                waited = self.waited(self.precedence.turn)
+            self.assertGreaterEqual(waited, PATIENCE)
+            self.assertLess(waited, LATE)
 
     def test_one_that_comes_later_has_its_own_patience(self) -> None:
         async def later() -> float:

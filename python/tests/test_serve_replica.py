@@ -8,14 +8,72 @@ from unittest import mock
 
 from journaled import Model, batch, put, told
 from serving import ServeCase
+from support import Case
 
 from misteluk import Columns, connect, Store, StoreError, Units
-from misteluk.errors import ReadOnly
-from misteluk.journal.replica import FirstFile
+from misteluk.errors import NotWritten, ReadOnly
+from misteluk.journal.replica import Added, FirstFile
+from misteluk.journal.tables import Settings
+from misteluk.serve import log
 from misteluk.serve.board import Board
 from misteluk.serve.limits import ServerLimits
-from misteluk.serve.replica import Replica
+from misteluk.serve.replica import FirstServer, Replica
 from misteluk.serve.server import Server
+
+
+class BySteps(Case):
+    """A replica of a first that the test has."""
+
+    def replica(self, kind=FirstServer, version=5):
+        first = mock.Mock(spec=kind)
+        first.name, first.begin.return_value = "/x/first", (mock.Mock(version=version, kinds=[], texts={}), Settings())
+        with mock.patch("misteluk.serve.replica.first_of", return_value=first):
+            return Replica("first")
+
+    def test_what_is_told(self):
+        for newest, ahead, fault, told in (
+                (7, 0.0, "", {"behind": 2, "seconds": 0.0}), (7, 90.0, "", {"behind": 2, "seconds": 10.123}),
+                (5, 101.0, "", {"behind": 0, "seconds": 0.0}), (4, 0.0, "why", {"behind": 0, "seconds": 0.0, "reason": "why"})):
+            it = self.replica()
+            it._newest, it._ahead, it._fault = newest, ahead, fault
+            with mock.patch("time.time", return_value=100.12345):
+                self.assertEqual(it.told(), told)
+
+    def test_steps(self):
+        """What came is applied and told; since when the first is ahead is known as long as it is."""
+        it, board = self.replica(), mock.Mock()
+        for rows, newest, version, settings, is_more, ahead in (
+                ([], 5, 5, Settings(), False, 0.0), ([mock.Mock(at=90_000_000)], 7, 6, Settings(), True, 90.0),
+                ([mock.Mock(at=95_000_000)], 7, 7, Settings(), True, 0.0), ([], 7, 7, Settings(weight_scale=100), False, 0.0)):
+            def take(added):
+                it._copy.state.version, it._copy.settings = version, added.settings
+            it.first.added.return_value = Added(rows, newest, settings)
+            with mock.patch.object(it._copy, "take", side_effect=take) as taken:
+                self.assertEqual((it._step(board), it._ahead, it.behind), (is_more, ahead, newest - version))
+            self.assertEqual((taken.call_count, it.store._ledger.terms.units.scale),
+                             (int(version > 5), settings.weight_scale or 1))
+        self.assertEqual(board.advance.call_count, 3)
+
+    def test_a_first_that_can_t_be_read(self):
+        """It is logged once, with what led to it where nobody meant it, and what is told has no place of this machine."""
+        for fault, is_meant in ((NotWritten("at /x/first: why"), True), (OSError("at /x/first: why"), True),
+                                (KeyError("at /x/first: why"), False)):
+            it, told = self.replica(), f"/x/first can't be read, and what is there answers: {fault}"
+            with mock.patch.object(log, "fault") as logged:
+                it._failed(fault)
+                it._failed(fault)
+            logged.assert_called_once_with(told, None if is_meant else fault, told)
+            self.assertEqual(it.fault.strip("'"), "at the first: why")
+
+    def test_its_end(self):
+        """A file stays open as long as its thread may read it."""
+        for kind, count in ((FirstServer, 1), (FirstFile, 0)):
+            it = self.replica(kind)
+            with mock.patch.object(it, "_run") as ran:
+                it.begin("a board")
+                self.assertTrue(it._thread.daemon)
+                it.close()
+            self.assertEqual((ran.call_args, it.first.close.call_count), (mock.call("a board"), count))
 
 
 class Replicas(ServeCase):

@@ -7,17 +7,20 @@ from array import array
 from http.client import HTTPException, RemoteDisconnected
 from unittest import mock
 
-from serving import HAS_PACKAGES, ServeCase
+from serving import HAS_PACKAGES, NO_PACKAGES, ServeCase
 
 from misteluk import Degree, Units, connect
 from misteluk.engine.operations import row_of
+from misteluk.engine.protocol import Scope
 from misteluk.serve import answers, wire
 from misteluk.serve.checking import seen_rows
 from misteluk.serve.limits import ServerLimits
+from misteluk.serve.people import EVERYONE
 from misteluk.values.names import NameTable
 
 if HAS_PACKAGES:
     from misteluk.serve import asking
+    from misteluk.serve.flow import PERSON
 
 WHOLE = b"HTTP/1.1 200 OK\r\nContent-Length: 5\r\nMisteluk-Server: x\r\n\r\nhello"
 CHUNKED = b"HTTP/1.1 200 OK\r\ntransfer-encoding: chunked\r\n\r\n5\r\nhello\r\n3\r\n!!!\r\n0\r\n\r\n"
@@ -108,6 +111,48 @@ class Names(unittest.TestCase):
             self.assertEqual(json.loads(named.told(names)), {"names": names, "texts": texts})
             self.assertEqual(json.loads(wire.Named(table).told(names)), {"names": names, "texts": texts})
 
+    def test_names_are_written_once(self):
+        """Of names that follow others the new ones alone."""
+        named, plain = wire.Named(NameTable()), [f"v{it}" for it in range(100)]
+        with mock.patch.object(wire, "_json", wraps=wire._json) as written:
+            for count in (60, 60, 100):
+                named.told(plain[:count])
+        self.assertEqual([it.args[0] for it in written.call_args_list], [plain[:60], plain[60:]])
+
+
+class Calls(unittest.TestCase):
+    GIVEN = {"kind": "k", "since": 2, "until": 5, "name": "a", "target": "b", "steps": 3, "either": True}
+
+    def test_what_a_version_is_asked(self):
+        table, row = array("I", [1]), [array("I", [1])] * 2
+        for call, more, told in (("degrees", (), row), ("labels", (), table), ("cores", (), table), ("edges", (), row),
+                                 ("levels", ("a",), row), ("within", ("a", 3, True), row), ("path", ("a", "b"), table),
+                                 ("out_of", ("a",), row), ("into", ("a",), row)):
+            held = mock.Mock(**{f"{call}.return_value": told})
+            found = wire.unpacked(b"".join(wire.asked(held, call, self.GIVEN, None)))
+            getattr(held, call).assert_called_once_with(Scope("k", 2, 5), *more)
+            self.assertEqual(found, [told] if told is table else told)
+
+    def test_what_it_is_not_asked(self):
+        for call, more in (("close", {}), ("within", {"steps": -1}), ("within", {"steps": True}), ("within", {"steps": 1.0}),
+                           ("path", {"target": 5}), ("path", {"target": ""}), ("into", {"name": None}), ("edges", {"kind": ""}),
+                           ("edges", {"since": -1}), ("edges", {"until": 1 << 63}), ("edges", {"until": "5"})):
+            held = mock.Mock()
+            self.assertRaises(ValueError, wire.asked, held, call, {**self.GIVEN, **more}, None)
+            self.assertEqual(held.mock_calls, [], (call, more))
+
+
+@unittest.skipUnless(HAS_PACKAGES, NO_PACKAGES)
+class Little(unittest.TestCase):
+    def test_how_long_a_question_is(self):
+        """One that is longer than the loop reads, or than a body may be, or that doesn't come whole, goes the long way."""
+        answered = mock.Mock(**{"at_once.return_value": b"told"})
+        for most, size, is_more, told in ((1 << 20, 1 << 16, False, b"told"), (1 << 20, (1 << 16) + 1, False, None),
+                                          (1_024, 1_024, False, b"told"), (1_024, 1_025, False, None), (1_024, 9, True, None)):
+            message = {"type": "http.request", "body": b"{}".ljust(size), "more_body": is_more}
+            shortcut = asking.Shortcut(None, None, answered, ServerLimits(body=most))
+            self.assertEqual(shortcut._told("x", message, {PERSON: EVERYONE}), told, (most, size, is_more))
+
 
 class Asked(ServeCase):
     def raw(self, body, *parts):
@@ -141,6 +186,7 @@ class Asked(ServeCase):
         self.assertEqual(self.raw(b'{"call": "found", "ends": [["transfer", "ana", "funnel"]]}'), (200, b"[[980, 1, 1]]"))
         for body in (b"", b"[]", b"nothing", b"[" * 100_000, b'{"call": ["found"]}'):
             self.assertEqual(self.raw(body)[0], 400, body[:20])
+        self.assertEqual(self.ask(f"/v1/sessions/{self.name}/ask").status, 405)
 
     def test_tables_are_those_of_their_version(self):
         """What is kept of a version is told of no other one, nor of some of its edges."""

@@ -10,6 +10,7 @@ from unittest import mock
 from support import Case, optional
 
 from misteluk import Columns, Edge
+from misteluk.errors import PoolEmpty
 from misteluk.feeds import limits
 from misteluk.feeds.loading import Loaded
 from misteluk.feeds.opening import form_of
@@ -219,6 +220,24 @@ class Loads(Case):
                 (most + 1, 0, 1, 0, none), (most + 1, 1, 1, 0, fit.format(1)), (2 * most, 0, 2, 0, fit.format(2)),
                 (2 * most + 1, 0, 2, 0, none)):
             self.assertEqual(limits._smaller(mock.Mock(rows=rows, bad=bad), blocks, used), told)
+
+    def test_too_little_room(self):
+        """How many blocks are free and how many are needed, and what helps: more of them, fewer in use, or smaller batches."""
+        fit = "a batch needs as many free blocks as it has operations: batches of 4 fit (batch=4, --batch 4)"
+        more = "Make the store with blocks=90 or more"
+        for used, most, told in ((0, 90, more), (5, 90, more), (0, 89, "Free blocks first"),
+                                 (5, 89, "Make it empty, or free blocks first")):
+            store, found = mock.Mock(blocks=64, **{"_engine.most_blocks": most}), mock.Mock(
+                rows=10, bad=0, vertices=3, kinds=["k"], blocks=60, _room=7, _largest=9, feed="f")
+            found._surely_fits.return_value, found._needed_beside.return_value = False, 90
+            with self.assertRaisesRegex(PoolEmpty, "f needs at least 90 blocks in batches of 9, and the store was made with 64; "
+                                        "nothing was sent") as caught:
+                limits.check_room(store, found, used)
+            store._engine.fit.assert_called_once_with(3, 1, used + 7)
+            self.assertEqual((caught.exception.needed, caught.exception.free, caught.exception.advice),
+                             (90, 64 - used, f"{told}; {fit}"))
+            for found._surely_fits.return_value, found._needed_beside.return_value in ((True, 90), (False, 64)):
+                limits.check_room(store, found, used)
 
 
 if __name__ == "__main__":

@@ -59,6 +59,8 @@ class Calls(Case):
         self.assertEqual(list(session.edges("l")), list(session.edges(kind="l")))
         self.assertEqual(list(session.edges("l", since=6)), [("l", "b", "c", Edge(4, 7, 7))])
         self.refused(misteluk.errors.NoKind, "nix", lambda: session.edges("nix"))
+        for call in (session.levels, session.out_edges, session.in_edges):  # (the kind is told where neither is there)
+            self.refused(misteluk.errors.NoKind, "nix", lambda: call("nobody", "nix"))
         for wrong in (["lab"], [("l", "a")], [("l", "a", "b", "c")]):
             self.refused(TypeError, f"by its kind, source and target, and not by {wrong[0]!r}", lambda: session.get_edges(wrong))
 

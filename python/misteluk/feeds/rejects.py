@@ -113,8 +113,9 @@ class Rejects:
         good: they come again, in their order. (Who moved the file away has one that is shorter, of which all is looked at.)"""
         with suppress(OSError), open(self.path, "rb") as file:
             if self.size:
-                file.seek(size if size <= self.size else 0)
-                self._again, self._at = file.read(), 0
+                begin = file.seek(size if size <= self.size else 0)
+                mark = b"" if begin else self._bytes("", False)  # (of the order of bytes, which is no row's)
+                self._again, self._at = file.read().removeprefix(mark), 0
 
     def _not_there(self, rows: Sequence[str]) -> Sequence[str]:
         """The rows that the file doesn't have yet: behind the first of them all are new."""
