@@ -12,7 +12,6 @@ from support import Case, feed_of, optional
 import misteluk
 from misteluk import Columns, Edge, Units, errors
 from misteluk.feeds.objects import from_networkx
-from misteluk.feeds.opening import open_feed
 from misteluk.feeds import feed as feeds, objects
 
 OF_TRANSFERS = Columns("from", "to", None, "amount", "when", "transfer")
@@ -40,7 +39,7 @@ class Missing(Case):
         for size in (1, 2, 1_024):
             with mock.patch.object(feeds, "ROWS_AT_ONCE", size), self.assertRaisesRegex(
                     misteluk.errors.FeedFault, "^columns:3: b'c': bytes are no text"):
-                list(open_feed({"source": ["a", 5.5, b"c", "d"], "target": ["x", "y", None, "w"]}).rows)
+                list(feed_of({"source": ["a", 5.5, b"c", "d"], "target": ["x", "y", None, "w"]}).rows)
 
 
 @unittest.skipUnless(optional("networkx"), "networkx is not there")

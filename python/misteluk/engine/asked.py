@@ -15,6 +15,9 @@ class Answers:
     def __init__(self) -> None:
         self._found: "Dict[object, Sequence[array[int]]]" = {}
 
+    def __len__(self) -> int:
+        return len(self._found)
+
     def get(self, asked: object) -> "Optional[Sequence[array[int]]]":
         found = self._found.pop(asked, None)
         if found is not None:
