@@ -126,6 +126,9 @@ class Commands(CommandCase):
         self.assertEqual((status, script.read_text().splitlines()), (0, list(wanted)))
         self.assertEqual(words_of(script.read_bytes()), {})
         self.assertIn("9 records written to", out)
+        for words in (("--script", script), ("--dry-run",)):  # (and nothing is loaded)
+            status, out, _ = self.run_it("load", self.file("p.csv", PAIRS), *OF_PAIRS, "--add", *words)
+            self.assertEqual((status, "inserted" in out, out.startswith(f"{self.room / 'p.csv'}: 5 rows")), (0, False, True))
 
     def test_save_and_restore(self):
         """What is saved is asked again; a file that is none is told of, and nothing is begun."""

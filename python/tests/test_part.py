@@ -10,6 +10,7 @@ import random
 import signal
 import tempfile
 import unittest
+from unittest import mock
 import warnings
 from collections import defaultdict
 
@@ -68,6 +69,21 @@ def place_of(session):
 
 
 class Parts(Case):
+    def test_how_a_part_is_made(self):
+        """It shows no progress, unless that is said; and its store is closed where the load fails."""
+        for given, is_shown in (({}, False), ({"progress": True}, True)):
+            with mock.patch("misteluk.part.Store") as made:
+                Part("data", {"seats": 3}, by="set", **given)
+                made.assert_called_once_with(seats=3)
+                made.return_value.load.assert_called_once_with("data", by="set", progress=is_shown)
+                made.return_value.load.side_effect, made.return_value.close = KeyError, mock.Mock()
+                try:
+                    Part("data", by="set")
+                except KeyError:  # (the part is there still, with the frame that it was made in)
+                    self.assertEqual(made.return_value.close.call_count, 1)
+                else:
+                    self.fail("a load that fails makes a part")
+
     def part(self, *given, **named):
         part = Part(*given, **named)
         self.addCleanup(part.close)

@@ -141,7 +141,8 @@ class Answers(ServeCase):
         parts = []
         while not parts or parts[-1]:
             parts.append(reader.recv(1 << 16))
-        body = b"".join(parts).partition(b"\r\n\r\n")[2]
+        head, _, body = b"".join(parts).partition(b"\r\n\r\n")
+        self.assertEqual(head.split(b"\r\n")[0], b"HTTP/1.1 200 OK")
         told = json.loads(b"".join(body.split(b"\r\n")[1::2]))
         self.assertEqual((told["version"], told["rows"], sum(told["columns"]["weight"])),
                          (version, count, sum(range(count))))

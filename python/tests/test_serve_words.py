@@ -13,6 +13,7 @@ from support import Case
 from misteluk import Store, Units
 from misteluk.command import serve
 from misteluk.command.options import make_parser
+from misteluk.feeds.steps import FeedMark, FeedPlace
 from misteluk.serve import log
 from misteluk.serve.limits import ServerLimits
 from misteluk.serve.people import People
@@ -113,6 +114,30 @@ class Words(Case):
         server.feeding.follow.reset_mock()
         serve.follow(server, self.words(), {"by": None})
         server.feeding.follow.assert_not_called()
+
+    def test_files_in_turn(self):
+        """What a store's file follows; what is said of a file before, and of those that went; and each is noted."""
+        text, server = self.file("feed.csv", "a,b\n"), mock.Mock()
+        words = self.words(str(self.room / "new.db"), text, "--add")
+        with mock.patch.object(serve, "FilesInTurn") as made:
+            serve.follow(server, words, {"by": "add"})
+        made.assert_called_once_with(server.store, words, {"by": "add"})
+        server.feeding.follow.assert_called_once_with(made.return_value.next.return_value, made.return_value)
+        rotated = (f"{text} is another file than the one that was followed last. That one %s. A file that stood there "
+                   "meanwhile, if there was one, isn't read")
+        lost = "2 of the files that stood there before aren't there any more, and may have had more than is in"
+        for before, is_another, gone, said in (
+                (None, False, 0, []), (None, True, 0, [("rotated", rotated % "isn't there any more")]),
+                ("/f.1", True, 2, [("rotated", rotated % "is /f.1, and what isn't in of it goes in first"),
+                                   ("lost", f"{text}: {lost}")])):
+            found = mock.Mock(is_another=is_another, before=before, gone=gone)
+            with mock.patch.object(serve, "Succession", return_value=found), mock.patch.object(log, "state") as state:
+                files = serve.FilesInTurn(server.store, words, {})
+            self.assertEqual(([it.args for it in state.call_args_list], files.lost), (said, lost if gone else ""))
+            mark = FeedMark("/f", (1, 2), 0)
+            files._note(mark)
+            self.assertEqual(server.store._ledger.apply.call_args.args[0].feed, mark.written(FeedPlace()))
+            server.store._ledger.apply.reset_mock()
 
     def run_it(self, *said):
         """What there is while a server runs: how long a thread's turn is, whether what is there is looked through for cycles,
