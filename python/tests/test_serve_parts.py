@@ -21,6 +21,7 @@ from misteluk.serve.keeping import Keeper
 from misteluk.serve.limits import ServerLimits
 from misteluk.serve.metrics import Counts
 from misteluk.serve.people import Person
+from misteluk.serve.server import Server
 
 if HAS_PACKAGES:
     from misteluk.serve.flow import within
@@ -307,6 +308,12 @@ class Running(ServeCase):
         self.assertEqual((config.access_log, config.server_header, config.proxy_headers), (False, False, False))
         self.assertEqual((config.timeout_keep_alive, config.backlog, config.lifespan), (12, 64, "off"))
         self.assertEqual(config.log_level, "critical")
+
+    def test_a_server_that_is_entered(self):
+        """It answers within, and not behind."""
+        with Server(self.store(seats=16, endless=True), "127.0.0.1:0") as self.server:
+            self.assertEqual(self.ask("/healthz").status, 200)
+        self.assertRaises(ConnectionError, self.ask, "/healthz")
 
     def test_how_often_silent_sessions_are_looked_for(self):
         """Four times while one may be silent, and each 5 s at least."""
