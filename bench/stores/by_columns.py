@@ -171,7 +171,7 @@ def exports(shape: str, scale: int, edges: int, room: pathlib.Path) -> Dict[str,
     load(store, {**part, "weight": part["weight"] + 1})
     after = store.open()
     works = {"diff": lambda: before.diff(after), "diff().to_pandas()": lambda: before.diff(after).to_pandas(),
-             "edges().to_pandas()": lambda: after.edges().to_pandas(), "to_csv": lambda: after.to_csv(room / "edges.csv"),
+             "edges().to_pandas()": lambda: after.edges().to_pandas(), "to_csv": lambda: after.edges().to_csv(room / "edges.csv"),
              "save": lambda: after.save(room / "saved.csv"), "restore": lambda: Client.restore(room / "saved.csv").close()}
     found = {name: timed(work)[1].processor for name, work in works.items()}
 
