@@ -35,6 +35,9 @@ QUIET = frozenset(dis.opmap[it] for it in (
     "CACHE", "CONTAINS_OP", "COPY", "DUP_TOP", "EXTENDED_ARG", "IS_OP", "LOAD_CONST", "LOAD_FAST", "LOAD_FAST_CHECK",
     "LOAD_FAST_LOAD_FAST", "NOP", "POP_JUMP_FORWARD_IF_NONE", "POP_JUMP_IF_NONE", "POP_TOP", "PUSH_NULL", "ROT_TWO", "STORE_FAST",
     "STORE_FAST_LOAD_FAST", "SWAP") if it in dis.opmap)
+# And after a jump forwards by what these gave, which is `True` or `False` and nothing else.
+BOOLS, JUMPS = (frozenset(dis.opmap[it] for it in some if it in dis.opmap) for some in (
+    ("CONTAINS_OP", "IS_OP"), ("POP_JUMP_IF_FALSE", "POP_JUMP_IF_TRUE")))
 
 
 def at_place(wanted, call, of="opcode"):
@@ -43,20 +46,21 @@ def at_place(wanted, call, of="opcode"):
     count = 0
 
     def begin(frame, event, _):
-        code, is_quiet = frame.f_code, False
+        code, is_quiet, last = frame.f_code, False, 0
         if not code.co_filename.startswith(PACKAGE):
             return None
         frame.f_trace_opcodes = of == "opcode"
         steps = STEPS.setdefault(code, code.co_code)
 
         def step(frame, event, _):
-            nonlocal count, is_quiet
+            nonlocal count, is_quiet, last
             if event == of:
                 if not is_quiet:
                     count += 1
                     if count == wanted:
                         raise KeyboardInterrupt
-                is_quiet = of == "opcode" and steps[frame.f_lasti] in QUIET
+                now = steps[frame.f_lasti]
+                is_quiet, last = of == "opcode" and (now in QUIET or now in JUMPS and last in BOOLS), now
             return step
         return step
     before = sys.gettrace()
