@@ -49,7 +49,6 @@ def at_place(wanted, call, of="opcode"):
         code, is_quiet, last = frame.f_code, False, 0
         if not code.co_filename.startswith(PACKAGE):
             return None
-        frame.f_trace_opcodes = of == "opcode"
         steps = STEPS.setdefault(code, code.co_code)
 
         def step(frame, event, _):
@@ -62,6 +61,8 @@ def at_place(wanted, call, of="opcode"):
                 now = steps[frame.f_lasti]
                 is_quiet, last = of == "opcode" and (now in QUIET or now in JUMPS and last in BOOLS), now
             return step
+        frame.f_trace = step  # (Python 3.13 looks for this as it is told to trace each step of its own)
+        frame.f_trace_opcodes = of == "opcode"
         return step
     before = sys.gettrace()
     sys._getframe().f_trace_opcodes = True  # (Python 3.12 looks for this as it begins to trace)
