@@ -264,7 +264,7 @@ class Checking(unittest.TestCase):
 
 
 class Degrees(Dict[str, int]):
-    def dict(self) -> Dict[str, int]:
+    def to_dict(self) -> Dict[str, int]:
         return self
 
 
