@@ -84,6 +84,7 @@ def of_the_library_and_client() -> Iterator[Measurement]:
     yield Measurement("edges", "How many single edges does a session answer in a second?", 1)
     yield Measurement("endless", "Is a feed without end right at ten points, and how long is its longest commit?", 3)
     yield Measurement("renewals", "How long does a store in process stand still when it starts over, by its edges?", 0.5)
+    yield Measurement("latency", "How long does a commit take by its size, and a question by its version's age?", 4, ("numpy",))
     yield Measurement("journal", "What do commits, openings and single posts of a store with a file take?", 8,
                       ("starlette", "uvicorn"))
     yield Measurement("serve", "How long do a server's clients wait, and what does the feed lose?", 3, ("starlette", "uvicorn"))
