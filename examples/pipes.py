@@ -1,5 +1,5 @@
 #!/usr/bin/env python3
-"""Talks to `stinger run` through pipes, as docs/USING.md says: pipes.py PROGRAM [ARGUMENT..], else ./stinger of this
+"""Talks to `stinger run` through pipes, as docs/PROGRAM.md says: pipes.py PROGRAM [ARGUMENT..], else ./stinger of this
 repository."""
 import pathlib
 import subprocess

@@ -200,7 +200,7 @@ def build_wheel(wheel_directory: str, config_settings: Any = None, metadata_dire
     if not library and around():
         raise SystemExit(f"misteluk: no library of the sources as they are is in {around()}, and the package needs it: run "
                          "./stinger library there, which makes it, and then pip install ./python; without rt, install the wheel "
-                         "of a release (docs/USING.md)")
+                         "of a release (docs/PROGRAM.md)")
     if not library:
         print("misteluk: a source archive has no library: have MISTELUK_LIBRARY name one, or install the wheel of a release",
               file=sys.stderr)

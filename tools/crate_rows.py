@@ -7,7 +7,7 @@ import re
 from crate_docs.sources import OWN
 
 TOP = pathlib.Path(__file__).resolve().parent.parent
-PAGE = TOP / "docs/ARCHITECTURE.md"
+PAGE = TOP / "CONTRIBUTING.md"
 
 
 def rows_in(text):
@@ -34,7 +34,7 @@ def unnamed():
     listed, own = crates(), own_crates()
     for name in listed:
         if name not in own and f"`{name}`" not in page:
-            yield f"docs/ARCHITECTURE.md doesn't name {name}"
+            yield f"CONTRIBUTING.md doesn't name {name}"
     for folder in sorted((TOP / "crates").iterdir()):
         if folder.name not in listed and any(folder.glob("src/*.rt")):
             yield f"crates.txt doesn't list {folder.name}"
@@ -49,7 +49,7 @@ def misplaced():
         crate = name.split()[0]
         for it in below.split():
             if crate in places and places.get(it, 0) > places[crate]:
-                yield f"docs/ARCHITECTURE.md: the map has {crate} in a row above {it}, on which it stands"
+                yield f"CONTRIBUTING.md: the map has {crate} in a row above {it}, on which it stands"
 
 
 def named_in(path):

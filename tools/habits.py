@@ -7,7 +7,7 @@
   link's target none.
 - A link of a page leads to a file of the repository, and to a heading of it where it names one. One that shows a name, as
   [`step`](FILE.antt), leads to the file of specs that defines it.
-- Each crate of crates.txt is named in docs/ARCHITECTURE.md, and stands on crates that crates.txt lists or the kit has. The map
+- Each crate of crates.txt is named in CONTRIBUTING.md, and stands on crates that crates.txt lists or the kit has. The map
   there has no crate in a row above those that it stands on.
 - A crate's row has those crates of the repository that its sources, specs and proofs name, and no others.
 - ARCHITECTURE's table of words has each word once, and each is used on another page or in a docstring of something public. A
@@ -18,7 +18,7 @@
   no word of COINED nor of `docstrings.COINED`; no public parameter has a name of `docstrings.PARAMETERS`.
 - No file's name, and no comment, docstring or text of code, has a phrase of WANTED, on one line or over several.
 - Each crate has a README of fewer than 60 lines, whose list of calls is the one that `tools/docs --readmes` writes.
-- docs/LIBRARY.md shows each program that stands on `misteluk`: its row of crates.txt, and each of its files as it is, or a link
+- docs/RATTLE.md shows each program that stands on `misteluk`: its row of crates.txt, and each of its files as it is, or a link
   to it.
 - No definition, and no lemma with its name and type, stands twice in `specs/` and `proofs/`.
 - The name of a definition of `specs/` stands in one crate, unless `statements.SEVERAL` says why in several.
@@ -55,7 +55,7 @@ PAGES = {".md", ".py", ".rs", ""}
 DEFINED = re.compile(r"\[`([^`]+)`\]\(([^)\s]+\.antt)\)")
 FENCED = re.compile(r"(?ms)^```.*?^```$")
 LINK = re.compile(r"(?<!!)\[[^\]]*\]\(([^)\s]+)\)")
-WORDS = TOP / "docs/ARCHITECTURE.md"
+WORDS = TOP / "CONTRIBUTING.md"
 # What a newcomer can't know: words that are this repository's, or mean something of its own in it.
 HOUSE = """act birth board book desk drive floor gate grant journal label level opening pin receipt retirement seat shard shelf
     slot stamp told""".split()
@@ -254,25 +254,25 @@ def programs():
 
 
 def unshown_programs():
-    page = (TOP / "docs/LIBRARY.md").read_text(encoding="utf-8")
+    page = (TOP / "docs/RATTLE.md").read_text(encoding="utf-8")
     if not programs():
         yield "crates.txt has no program over misteluk"
     for row, paths in programs().items():
         if f"\n    {row}\n" not in page:
-            yield f"docs/LIBRARY.md doesn't show the row {row}"
+            yield f"docs/RATTLE.md doesn't show the row {row}"
         for path in paths:
             is_shown = f"\n{path.read_text(encoding='utf-8')}```\n" in page
             if not is_shown and f"](../{path.relative_to(TOP)})" not in page:
-                yield f"docs/LIBRARY.md neither shows {path.relative_to(TOP)} as it is nor leads to it"
+                yield f"docs/RATTLE.md neither shows {path.relative_to(TOP)} as it is nor leads to it"
 
 
 def unnamed_exports():
-    page = (TOP / "docs/LIBRARY.md").read_text(encoding="utf-8")
+    page = (TOP / "docs/RATTLE.md").read_text(encoding="utf-8")
     facade = (TOP / "crates/misteluk/src/lib.rt").read_text(encoding="utf-8")
     for names in re.findall(r"(?s)^pub use \w+::\{?([^;}]+)", facade, re.M):
         for name in re.findall(r"\w+", names):
             if not re.search(rf"`[^`]*\b{name}\b[^`]*`", page):
-                yield f"docs/LIBRARY.md doesn't name {name}, which misteluk hands on"
+                yield f"docs/RATTLE.md doesn't name {name}, which misteluk hands on"
 
 
 def lost_edits(path):

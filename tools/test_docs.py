@@ -178,7 +178,7 @@ class Tree(Case):
         for it in ("tools/docs", "tools/statements.py"):
             shutil.copy(TOP / it, self.top / it)
         self.write("crates.txt", "# Crates.\nlow: csv\nhigh may_wait=2: low\n")
-        self.write("docs/ARCHITECTURE.md", MAP)
+        self.write("CONTRIBUTING.md", MAP)
         self.write("crates/low/src/lib.rt", LOW)
         self.write("crates/low/src/boxes.rt", BOXES)
         self.write("crates/low/specs/Sizes.antt", SIZES)
@@ -256,7 +256,7 @@ class Trees(Tree):
     def test_a_crate_that_was_not_measured_takes_no_other_s_cost(self) -> None:
         self.write("crates.txt", "low:\nhigh: low\nroof: high\n")
         self.write("crates/roof/src/main.rt", "//! Another program.\n\nfn main() {}\n")
-        self.write("docs/ARCHITECTURE.md", MAP.replace("`low`, `high` | 7, 2", "`low`, `high`, `roof` | 7, not measured, over 2"))
+        self.write("CONTRIBUTING.md", MAP.replace("`low`, `high` | 7, 2", "`low`, `high`, `roof` | 7, not measured, over 2"))
         self.assertEqual(self.run_it("--readmes")[0], 0)
         costs = {it: (self.top / f"crates/{it}/README.md").read_text() for it in ("low", "high", "roof")}
         self.assertIn("A change costs 7 minutes", costs["low"])
@@ -296,8 +296,8 @@ class Repository(Case):
         self.assertGreater(len(offered), 30)
 
     def test_the_facade_has_the_names_of_its_page(self) -> None:
-        """What docs/LIBRARY.md says that the crate `misteluk` re-exports, which nobody generates, is what it does re-export."""
-        page = (TOP / "docs/LIBRARY.md").read_text(encoding="utf-8")
+        """What docs/RATTLE.md says that the crate `misteluk` re-exports, which nobody generates, is what it does re-export."""
+        page = (TOP / "docs/RATTLE.md").read_text(encoding="utf-8")
         table = page.split("\n## What the crate re-exports\n")[1].split("\n## ")[0]
         listed = re.findall(r"`(\w+)`", table)
         facade = (TOP / "crates/misteluk/src/lib.rt").read_text(encoding="utf-8")

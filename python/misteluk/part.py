@@ -21,7 +21,7 @@ class Part:
     >>> part.close()
 
     `data` and the options are those of `Store.load`, and `store` is a dict of those of `Store`. A part is pickled as these,
-    without its graph: the process that gets it loads the rows again, and so may dask if a worker is lost (docs/FLEET.md). Nobody
+    without its graph: the process that gets it loads the rows again, and so may dask if a worker is lost (docs/PYTHON.md). Nobody
     may change its store, since `ask` asks the session that was opened after the load."""
 
     def __init__(self, data: Any, store: Optional[Mapping[str, Any]] = None, **load: Any) -> None:

@@ -56,7 +56,7 @@ class Store(Uncopied, Generic[W, T]):
 
     The graph ends with the store, which is in this process (`LibraryNotFound`: its library can't be loaded). `Store("graph.db")`
     has a file: it makes the file or goes on with what the file has, units and limits included, and writes each batch before
-    anybody sees it (docs/DURABLE.md).
+    anybody sees it (docs/PYTHON.md).
 
     - `units`: what weights and times are counted in (`Units`); the first load may set them if no operation came before it.
     - `blocks`: how many blocks there are, 16 or more. A block takes 1 KB once it is used, and has room for 32 edges of one kind

@@ -1,5 +1,5 @@
 """A part: what it answers beside a store of its own, where it is made again, and on the workers of a cluster, one of which is
-killed amid questions; and the examples of docs/FLEET.md."""
+killed amid questions; and the examples of docs/PYTHON.md."""
 import copy
 import doctest
 import logging
@@ -24,7 +24,7 @@ from misteluk.errors import Missing, refusal
 os.environ.setdefault("DASK_DISTRIBUTED__WORKER__MULTIPROCESSING_METHOD", "forkserver")  # (in a third of the time)
 PARTS, ROWS, WORKERS = 40, 1_500, 4
 HOW = {"by": "add", "columns": Columns(1, 2, weight=3, time=4), "units": Units(weight_scale=100, times="iso")}
-PAGE, ADDRESS = TOP / "docs/FLEET.md", "tcp://scheduler:8786"
+PAGE, ADDRESS = TOP / "docs/PYTHON.md", "tcp://scheduler:8786"
 
 
 def made_rows():

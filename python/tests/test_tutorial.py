@@ -1,4 +1,4 @@
-"""Runs each command of docs/TUTORIAL.md, docs/PYTHON.md and docs/USING.md, README's parts for Python and for one's own data, and
+"""Runs each command of docs/TUTORIAL.md, docs/PYTHON.md and docs/PROGRAM.md, README's parts for Python and for one's own data, and
 compares what they print; and works out the stories' figures once more, by plain loops over their files."""
 import contextlib
 import csv
@@ -89,11 +89,11 @@ class Documents(Case):
         self.assertGreater(self.conversations(TUTORIAL), 25)
         self.assertGreater(self.conversations(TOP / "README.md"), 1)
         self.assertGreater(self.conversations(TOP / "docs/PYTHON.md"), 5)
-        self.assertGreater(self.conversations(TOP / "docs/DURABLE.md"), 3)
+        self.assertGreater(self.conversations(TOP / "docs/PYTHON.md"), 3)
 
     def test_the_commands_of_other_pages(self):
         self.assertGreater(self.run_commands(TOP / "docs/PYTHON.md"), 0)
-        self.assertEqual(self.run_commands(TOP / "docs/USING.md"), 1)
+        self.assertEqual(self.run_commands(TOP / "docs/PROGRAM.md"), 1)
 
     @unittest.skipUnless((TOP / ".git").exists(), "this is no clone")
     def test_a_clone_stays_clean(self):
@@ -106,7 +106,7 @@ class Documents(Case):
                        stdout=subprocess.DEVNULL, stderr=subprocess.DEVNULL, timeout=60, check=True)
         for it in ("TUTORIAL", "PYTHON", "USING"):
             self.run_commands(TOP / f"docs/{it}.md")
-        for it in ("docs/TUTORIAL.md", "docs/PYTHON.md", "docs/DURABLE.md", "README.md"):
+        for it in ("docs/TUTORIAL.md", "docs/PYTHON.md", "docs/PYTHON.md", "README.md"):
             self.conversations(TOP / it)
         left = sorted(set(os.listdir(self.room)) - before)
         self.assertTrue({"funnel.html", "script.csv", "bank.csv", "bank.csv.gz"} <= set(left), left)

@@ -76,7 +76,7 @@ def cost_line(name: str, below: Dict[str, List[str]], minutes: Dict[str, str]) -
     who = {0: "no crate stands on it", 1: "one crate stands on it"}.get(count, f"{count} crates stand on it")
     unit = "minute" if minutes.get(name) == "1" else "minutes"
     cost = f" costs {minutes[name]} {unit} of processor time" if name in minutes else " has to be proved"
-    return (f"A change{cost} ([the map](../../docs/ARCHITECTURE.md#the-map)): {who}.\n"
+    return (f"A change{cost} ([the map](../../CONTRIBUTING.md#the-map)): {who}.\n"
             f"`rt ci $(tools/crates-above {name})` proves all of it.")
 
 
@@ -110,7 +110,7 @@ def with_part(text: str, made: str) -> str:
 def readmes(top: pathlib.Path) -> Iterator["tuple[pathlib.Path, str, str]"]:
     """Yields the path of each crate's README, what it has, and what it should have."""
     below = crates_below((top / "crates.txt").read_text(encoding="utf-8"))
-    page = top / "docs/ARCHITECTURE.md"
+    page = top / "CONTRIBUTING.md"
     minutes = costs(page.read_text(encoding="utf-8")) if page.is_file() else {}
     for name in below:
         path = top / "crates" / name / "README.md"
