@@ -1,10 +1,10 @@
-"""The rows of crates.txt: which crates they list, on which each stands, and where the rows, ARCHITECTURE's map and the sources
+"""The rows of crates.txt: which crates they list, on which each stands, and where the rows, CONTRIBUTING's map and the sources
 differ."""
 import functools
 import pathlib
 import re
 
-from crate_docs.sources import OWN
+from crate_docs.sources import OWN, section
 
 TOP = pathlib.Path(__file__).resolve().parent.parent
 PAGE = TOP / "CONTRIBUTING.md"
@@ -41,7 +41,7 @@ def unnamed():
 
 
 def misplaced():
-    part = PAGE.read_text(encoding="utf-8").partition("\n## The map\n")[2].partition("\n## ")[0]
+    part = section(PAGE.read_text(encoding="utf-8"), "The map")
     lines = [line.split("|")[1] for line in part.splitlines() if line.startswith("| ")]
     places = {name: at for at, cell in enumerate(lines) for name in re.findall(r"`(\w+)`", cell)}
     for row in rows():

@@ -10,7 +10,7 @@
 - Each crate of crates.txt is named in CONTRIBUTING.md, and stands on crates that crates.txt lists or the kit has. The map
   there has no crate in a row above those that it stands on.
 - A crate's row has those crates of the repository that its sources, specs and proofs name, and no others.
-- ARCHITECTURE's table of words has each word once, and each is used on another page or in a docstring of something public. A
+- CONTRIBUTING's table of words has each word once, and each is used on another page or in a docstring of something public. A
   word of this house (HOUSE) that a page uses stands in that table, or that page or the README explains it, where it shows
   it *so*.
 - No page has a word of COINED, and none of its sentences begins with one of OPENERS, unless it is a question.
@@ -42,6 +42,7 @@ import docstrings
 import lengths
 import statements
 from crate_docs import readmes
+from crate_docs.sources import section
 
 TOP = pathlib.Path(__file__).resolve().parent.parent
 WIDTH = 130
@@ -173,8 +174,8 @@ def undefined_names(page):
 
 
 def table_of_words():
-    """Returns the words that ARCHITECTURE's table explains, in its order; a row may have several."""
-    part = WORDS.read_text(encoding="utf-8").partition("\n## Words\n")[2].partition("\n## ")[0]
+    """Returns the words that CONTRIBUTING's table explains, in its order; a row may have several."""
+    part = section(WORDS.read_text(encoding="utf-8"), "Words")
     rows = [line for line in part.splitlines() if line.startswith("| ")][1:]
     return [word.strip() for row in rows for word in row.split("|")[1].split(",")]
 
@@ -197,13 +198,13 @@ def words_astray(pages):
     used = [text for page, text in texts.items() if page != WORDS] + list(public_docstrings())
     for word in dict.fromkeys(words):
         if words.count(word) > 1:
-            yield f"ARCHITECTURE's table has {words.count(word)} rows for {word}"
+            yield f"CONTRIBUTING's table has {words.count(word)} rows for {word}"
         if not any(is_used(word, text) for text in used):
-            yield f"ARCHITECTURE's table has {word}, which nothing else uses"
+            yield f"CONTRIBUTING's table has {word}, which nothing else uses"
     for page, text in texts.items():
         for word in HOUSE:
             if word not in words and is_used(word, text) and not re.search(rf"\*{word}s?\*", first + text, re.I):
-                yield f"{page.relative_to(TOP)} uses {word}, which neither it nor the README nor ARCHITECTURE's table explains"
+                yield f"{page.relative_to(TOP)} uses {word}, which neither it nor the README nor CONTRIBUTING's table explains"
 
 
 def coined_words(page):

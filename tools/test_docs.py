@@ -119,7 +119,7 @@ twice size = size + size
 abbrev pub cited_by_nothing : ℕ
 cited_by_nothing = 7
 """
-MAP = "# Map\n\n## The map\n\n| crate | cost |\n|---|---|\n| `low`, `high` | 7, 2 |\n\n## More\n"
+MAP = "# Contributing\n\n## Architecture\n\n### The map\n\n| crate | cost |\n|---|---|\n| `low`, `high` | 7, 2 |\n\n## More\n"
 
 
 class Reader(HTMLParser):

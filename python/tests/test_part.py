@@ -1,5 +1,5 @@
 """A part: what it answers beside a store of its own, where it is made again, and on the workers of a cluster, one of which is
-killed amid questions; and the examples of docs/PYTHON.md."""
+killed amid questions; and the examples of docs/PYTHON.md ("Many graphs")."""
 import copy
 import doctest
 import logging
@@ -171,7 +171,7 @@ class Clusters(Case):
 
     @unittest.skipUnless(optional("pandas"), "pandas is not there")
     def test_the_page_s_examples(self):
-        text = PAGE.read_text(encoding="utf-8")
+        text = PAGE.read_text(encoding="utf-8").partition("\n## Many graphs\n")[2].partition("\n## ")[0]
         self.assertEqual(self.run_examples(text), 12)
         self.assertRaises(AssertionError, self.run_examples, text.replace("    4\n", "    5\n"))
 

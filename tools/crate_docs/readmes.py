@@ -6,7 +6,7 @@ import re
 from typing import Dict, Iterator, List
 
 from crate_docs.docstrings import first_sentence
-from crate_docs.sources import Call, Crate, crates_below, read_crate
+from crate_docs.sources import Call, Crate, crates_below, read_crate, section
 
 FIRST = "<!-- What follows is written by tools/docs --readmes, up to the next comment. -->"
 LAST = "<!-- End of what is written. -->"
@@ -59,10 +59,10 @@ def above(name: str, below: Dict[str, List[str]]) -> List[str]:
 
 
 def costs(page: str) -> Dict[str, str]:
-    """Returns each crate's minutes, as ARCHITECTURE's map has them: one item for each crate of a row, or one for all. A crate
+    """Returns each crate's minutes, as CONTRIBUTING's map has them: one item for each crate of a row, or one for all. A crate
     that wasn't measured has none."""
     found: Dict[str, str] = {}
-    for line in page.partition("\n## The map\n")[2].partition("\n## ")[0].splitlines():
+    for line in section(page, "The map").splitlines():
         cells = [it.strip() for it in line.strip("|").split("|")]
         names = re.findall(r"`(\w+)`", cells[0])
         minutes = [it.strip() for it in cells[-1].split(",")]

@@ -242,6 +242,12 @@ def read_crate(folder: pathlib.Path) -> Crate:
     return crate
 
 
+def section(page: str, title: str) -> str:
+    """Returns what stands below a page's heading, up to the next one as high or higher; nothing if the page hasn't it."""
+    found = re.search(rf"(?m)^(#+) {re.escape(title)}$", page)
+    return re.split(rf"(?m)^#{{1,{len(found[1])}}} ", page[found.end():], maxsplit=1)[0] if found else ""
+
+
 # The line of crates.txt above programs of one's own, which no page shows.
 OWN = "# Programs of your own."
 
