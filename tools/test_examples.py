@@ -1,6 +1,7 @@
 #!/usr/bin/env python3
-"""Tests which program examples/check runs: that of the variable MISTELUK_PROGRAM, the proved one, or the compiled one; and of
-./check that it runs its own, whatever is named, and which parts `--unproved` leaves out."""
+"""Tests which program examples/check runs: that of the variable MISTELUK_PROGRAM, the proved one, or the compiled one; that each
+of its scripts has lines to be compared with, and a row of its folder's README; and of ./check that it runs its own, whatever is
+named, and which parts `--unproved` leaves out."""
 import os
 import pathlib
 import re
@@ -13,6 +14,19 @@ import time
 import unittest
 
 TOP = pathlib.Path(__file__).resolve().parent.parent
+
+
+class Scripts(unittest.TestCase):
+    def test_each_has_its_lines_and_its_row(self):
+        """And no file stands there that examples/check doesn't run: a row or a line of a script that is gone, or one misnamed."""
+        for folder in (TOP / "examples", TOP / "tests/scripts"):
+            rows = re.findall(r"(?m)^\| ((?:`\w+`(?:, )?)+) \|", (folder / "README.md").read_text(encoding="utf-8"))
+            listed = [name for row in rows for name in re.findall(r"\w+", row)]
+            scripts = sorted(it.stem for it in folder.glob("*.csv"))
+            self.assertGreater(len(scripts), 5)
+            self.assertEqual(sorted(listed), scripts)
+            self.assertEqual(sorted(it.stem for it in folder.glob("*.expected")), scripts)
+            self.assertLessEqual({it.stem for kind in ("args", "status") for it in folder.glob(f"*.{kind}")}, set(scripts))
 
 
 class Named(unittest.TestCase):
