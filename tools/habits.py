@@ -22,6 +22,7 @@
   to it.
 - No definition, and no lemma with its name and type, stands twice in `specs/` and `proofs/`.
 - The name of a definition of `specs/` stands in one crate, unless `statements.SEVERAL` says why in several.
+- Each tool has a line of `tools/catalog.py`, which says truly whether `./check` runs it, and a name in the style of the others.
 - A wrong body names files of its crate, and has pairs of an old line, which stands in its file once, and a new one.
 - README.md, CONTRIBUTING.md, docs/ and python/README.md have together at most 160,000 bytes: a page that gets longer has another
   get shorter. (CHANGELOG.md grows with each change that users see.)
@@ -37,6 +38,7 @@ import re
 import subprocess
 import sys
 
+import catalog
 import crate_rows
 import docstrings
 import lengths
@@ -342,6 +344,7 @@ def main():
         "names of several crates": list(of_ours(statements.in_several(TOP))),
         "wrong bodies": [it for path in edits for it in lost_edits(path)],
         "bytes of pages": list(too_many_bytes(plain_pages(known))),
+        "tools": list(catalog.astray(TOP)),
         "lengths": list(lengths.too_long(TOP, git("ls-files"))),
         "subjects": list(long_subjects()),
     }
