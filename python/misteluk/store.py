@@ -15,7 +15,7 @@ from .engine.protocol import Denied, Engine
 from .errors import NoSeat, PoolEmpty, Refused, StoreError, Uncommitted
 from .feeds.opening import reads
 from .ledger import Ledger
-from .session import Session
+from .session import Opened, Session
 from .values import records
 from .values.answers import Collected, Commit, Compacted, Stat, T, W, shown_as_html
 from .values.limits import Limits, within
@@ -38,7 +38,7 @@ if TYPE_CHECKING:
 R = TypeVar("R")
 
 
-class Store(Uncopied, Generic[W, T]):
+class Store(Uncopied, Opened, Generic[W, T]):
     """A graph that changes by batches, and whose versions sessions hold.
 
     >>> from misteluk import *
@@ -118,14 +118,14 @@ class Store(Uncopied, Generic[W, T]):
         """
         self._ledger.keep(INSERT, kind, source, target, weight, time)
 
-    def add(self, kind: str, source: str, target: str, amount: Amount = 1, time: Moment = 0) -> None:
+    def add(self, kind: str, source: str, target: str, weight: Amount = 1, time: Moment = 0) -> None:
         """Adds to the weight of the edge that is there, or adds the edge, as for repeated transfers. Errors are as of `insert`.
 
         >>> store.add("rail", "kassel", "hanau", 40, time=5)
         >>> store.commit().updated
         1
         """
-        self._ledger.keep(ADD, kind, source, target, amount, time)
+        self._ledger.keep(ADD, kind, source, target, weight, time)
 
     def remove(self, kind: str, source: str, target: str) -> None:
         """Removes an edge. If there is none, `commit` counts the operation as `absent`.
@@ -166,11 +166,10 @@ class Store(Uncopied, Generic[W, T]):
         """
         return len(self._ledger.pending)
 
-    @property
     def kinds(self) -> List[str]:
-        """The kinds that operations and feeds have named, in order.
+        """Returns the kinds that operations and feeds have named, in order, also before a commit.
 
-        >>> store.kinds
+        >>> store.kinds()
         ['road', 'rail']
         """
         self._ledger.settle()

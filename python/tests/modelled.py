@@ -157,7 +157,7 @@ class Model:
     def told_late(self):
         """What an interrupted commit did is told by the next one, also where a load comes between."""
         receipt, interrupted = self.call(self.store.commit, "commit")
-        self.store.kinds  # (which asks what became of it)
+        self.store.kinds()  # (which asks what became of it)
         loads = interrupted and not self.store.pending
         counts, self.pending = self.applied(self.pending), []
         if loads:

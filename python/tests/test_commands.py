@@ -48,8 +48,8 @@ class Commands(CommandCase):
 
     def test_load_and_ask_of_names(self):
         """Weights are sums, and a path goes along edges."""
-        self.load("into b: 1 edge\n  a weight 5 first 10 recent 13", "--add", "--ask", "into b")
-        self.load("out_of a: 2 edges\n  b weight 5 first 10 recent 13", "--add", "--ask", "out_of a", "--top", "1")
+        self.load("predecessors b: 1 edge\n  a weight 5 first 10 recent 13", "--add", "--ask", "predecessors b")
+        self.load("successors a: 2 edges\n  b weight 5 first 10 recent 13", "--add", "--ask", "successors a", "--top", "1")
         self.load("path a d: 2 steps\n  a\n  c\n  d\npath d a: none\npath x y link: 1 step\n  x\n  y\npath a a: 0 steps\n  a",
                   "--add", "--ask", "path a d", "--ask", "path d a", "--ask", "path x y link", "--ask", "path a a")
         self.load("edge link a b: weight 5 first 10 recent 13", "--add", "--ask", "edge link a b")
@@ -57,20 +57,20 @@ class Commands(CommandCase):
         self.assertEqual((status, "NoVertex" in err), (1, True))
 
     def test_load_and_ask_of_a_vertex_and_of_all(self):
-        """Neighbors have an edge out, an edge in, or both; within is along edges; edges are all, the heaviest first."""
+        """Neighbors have an edge out, an edge in, or both; a neighborhood is along edges; edges are all, the heaviest first."""
         self.load("neighbors a: 2 neighbors\n  b out weight 5 first 10 recent 13, in none\n  c out weight 2 first 11 recent 11, "
                   "in none", "--add", "--ask", "neighbors a")
         self.load("neighbors c link: 2 neighbors\n  d out weight 3 first 12 recent 12, in none", "--add", "--ask",
                   "neighbors c link", "--top", "1")
-        self.load("within a 1: 3 reached\n  a 0\n  b 1\n  c 1\nwithin a 2 link: 4 reached\n  a 0\n  b 1\n  c 1\n  d 2", "--add",
-                  "--ask", "within a 1", "--ask", "within a 2 link")
+        self.load("neighborhood a 1: 3 reached\n  a 0\n  b 1\n  c 1\nneighborhood a 2 link: 4 reached\n  a 0\n  b 1\n  c 1\n"
+                  "  d 2", "--add", "--ask", "neighborhood a 1", "--ask", "neighborhood a 2 link")
         self.load("edges: 4 edges\n  link a b weight 5 first 10 recent 13\n  link x y weight 5 first 14 recent 14", "--add",
                   "--ask", "edges", "--top", "2")
         self.load("edges link: 1 edge\n  link x y weight 5 first 14 recent 14", "--add", "--ask", "edges link", "--since", "14")
-        for wrong in ("within a", "within a b", "within a 1 link more", "neighbors", "edges a b"):
+        for wrong in ("neighborhood a", "neighborhood a b", "neighborhood a 1 link more", "neighbors", "edges a b"):
             with self.assertRaises(SystemExit), redirect_stderr(io.StringIO()) as told:
                 main(["load", "x", "--set", "--ask", wrong])
-            form = {"within": "NAME HOPS [KIND]", "neighbors": "NAME [KIND]", "edges": "[KIND]"}[wrong.split()[0]]
+            form = {"neighborhood": "NAME HOPS [KIND]", "neighbors": "NAME [KIND]", "edges": "[KIND]"}[wrong.split()[0]]
             self.assertIn(f"is asked as `{wrong.split()[0]} {form}`", told.getvalue())
 
     def test_edges_are_written(self):
@@ -114,7 +114,7 @@ class Commands(CommandCase):
 
     def test_a_kind_by_column(self):
         path = self.file("k.csv", "kind,source,target\nowns,a,b\nknows,b,c\n")
-        status, out, _ = self.run_it("load", path, "--set", "--kind-column", "kind", "--of-kind", "owns", "--levels", "a")
+        status, out, _ = self.run_it("load", path, "--set", "--kind", "kind", "--of-kind", "owns", "--levels", "a")
         self.assertEqual((status, out.splitlines()[2]), (0, "levels from a: 2 reached, the farthest at 1"))
         self.assertIn("2 rows, 3 names, 2 kinds, 2 edges in 2 blocks; 1 batch needs 2 blocks\n", out)
 

@@ -55,14 +55,14 @@ class FollowCommand(Case):
     def test_lines(self):
         text = "a,b,1,10\na,c,2,11\nc,d,3,12\nx,y,5,bad\na,b,4,13\n"
         status, out, err = self.run_it(text, "--skip-bad", "--keep", "1", "--ask", "degrees", "--ask", "levels a", "--ask",
-                                       "edge link a b", "--ask", "into b", "--ask", "components link", "--ask", "cores", "--ask",
-                                       "levels 'no one'", "--top", "1")
+                                       "edge link a b", "--ask", "predecessors b", "--ask", "components link", "--ask", "cores",
+                                       "--ask", "levels 'no one'", "--top", "1")
         self.assertEqual((status, out), (0, [
             "version 1: 4 rows to line 5, 3 inserted, 1 updated, 1 expired, 1 bad rows passed over; newest 13",
             "degrees: 4 names, greatest by out", "  a out 1 in 0 weight 5",
             "levels a: 2 reached, the farthest at 1", "  0: 1",
             "edge link a b: weight 5 first 10 recent 13",
-            "into b: 1 edge", "  a weight 5 first 10 recent 13",
+            "predecessors b: 1 edge", "  a weight 5 first 10 recent 13",
             "components link: 2 of 4 names", "  a 2",
             "cores: 4 names, greatest 1", "  a 1",
             "levels 'no one': there is no such name in this version"]))
@@ -82,7 +82,7 @@ class FollowCommand(Case):
             model.go_to(commit["rows"])
             recent = Model([])
             recent.edges = {it: edge for it, edge in model.edges.items() if edge[2] >= model.newest - 200}
-            found = {it["name"]: it["weight_out"] for it in degrees["most"]}
+            found = {it["name"]: it["weight_out"] for it in degrees["top"]}
             self.assertEqual({**dict.fromkeys(found, 0), **recent.weights()}, found)
             self.assertEqual((commit["newest"], edge["asked"]), (model.newest, "edge link s1 t1"))
             wanted = model.edges.get(("s1", "t1"))
@@ -90,11 +90,11 @@ class FollowCommand(Case):
 
     def test_decimals_and_dates_as_json(self):
         text = "a,b,1.50,2024-03-04T12:00:00\n"
-        asks = ("--json", "--weight-scale", "100", "--times", "iso", "--keep", "14d", "--within", "1h", "--ask", "into b")
+        asks = ("--json", "--weight-scale", "100", "--times", "iso", "--keep", "14d", "--within", "1h", "--ask", "predecessors b")
         status, out, _ = self.run_it(text, *asks)
         commit, answer = map(json.loads, out)
         time_of = "2024-03-04T12:00:00+00:00"
-        self.assertEqual((status, commit["newest"], answer["most"]),
+        self.assertEqual((status, commit["newest"], answer["top"]),
                          (0, time_of, [{"name": "a", "weight": "1.50", "first": time_of, "recent": time_of}]))
 
     def stopped(self, number):
@@ -112,7 +112,7 @@ class FollowCommand(Case):
                                                          "isn't whole yet, and not in\n")
         self.assertEqual([it["rows"] for it in told if "rows" in it], [256, 512, 700])
         model = Model(rows, "add", keep).go_to(256).go_to(512).go_to(700)
-        found = {it["name"]: it["weight_out"] for it in told[-1]["most"]}
+        found = {it["name"]: it["weight_out"] for it in told[-1]["top"]}
         self.assertEqual({**dict.fromkeys(found, 0), **model.weights()}, found)
 
     def test_ctrl_c_and_sigterm(self):
@@ -259,25 +259,26 @@ class FollowCommand(Case):
             self.assertNotIn("records", err.getvalue())
 
     def test_questions(self):
-        for text in ("degrees", "levels ana", "edge link ana 'bob b'", "into ana link"):
+        for text in ("degrees", "levels ana", "edge link ana 'bob b'", "predecessors ana link"):
             question(text)
         self.assertEqual(question("levels 'a b' \"k k\"")[1:], ("levels", ("a b",), "k k"))
         for text in ("", "levels", "degrees a b", "edge a b", "edge a b c d", "levels a b c", "'"):
             self.assertRaises(ValueError, question, text)
-        for text in ("into NL91 ABNA 0417", "edge link ana bob b"):
+        for text in ("predecessors NL91 ABNA 0417", "edge link ana bob b"):
             self.assertRaisesRegex(ValueError, r"and not as .*'\. A name with spaces stands within quotes", question, text)
         for text, told in (("levels", "levels is asked as `levels NAME [KIND]`, and not as 'levels'"),
-                           ("within a b", "within is asked as `within NAME HOPS [KIND]`, and not as 'within a b'"),
+                           ("neighborhood a b", "neighborhood is asked as `neighborhood NAME HOPS [KIND]`, and not as "
+                            "'neighborhood a b'"),
                            ("degrees a b", "degrees is asked as `degrees [KIND]`, and not as 'degrees a b'"),
                            ("path a", "path is asked as `path SOURCE TARGET [KIND]`, and not as 'path a'"),
                            ("edge a b", "edge is asked as `edge KIND SOURCE TARGET`, and not as 'edge a b'"),
-                           ("lewels a", "a question is one of degrees, weights_in, components, cores, edges, levels, into, "
-                            "out_of, neighbors, within, path, edge, and not 'lewels'")):
+                           ("lewels a", "a question is one of degrees, weights_in, components, cores, edges, levels, "
+                            "predecessors, successors, neighbors, neighborhood, path, edge, and not 'lewels'")):
             with self.assertRaises(ValueError) as caught:
                 question(text)
             self.assertEqual(str(caught.exception), told)
-        self.assertRaisesRegex(ValueError, "a quote isn't closed in \"into O'Neill\"", question, "into O'Neill")
-        self.assertEqual(question("into \"O'Neill\"").names, ("O'Neill",))
+        self.assertRaisesRegex(ValueError, "a quote isn't closed in \"levels O'Neill\"", question, "levels O'Neill")
+        self.assertEqual(question("levels \"O'Neill\"").names, ("O'Neill",))
 
 
 if __name__ == "__main__":

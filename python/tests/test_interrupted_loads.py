@@ -82,11 +82,11 @@ class Empty:
     def is_right(self):
         """Whether the units are the feed's where a part of it is in, and no one's where nothing is."""
         wanted = Units(100 if self.store.stat().version else 1, "number")
-        assert (self.store.units, self.store.kinds) == (wanted, ["l"] if self.store.stat().version else []), self.store.units
+        assert (self.store.units, self.store.kinds()) == (wanted, ["l"] if self.store.stat().version else []), self.store.units
         assert self.store.load([("x", "y", 7)], by="set", units=Units(weight_scale=wanted.weight_scale)).commit.inserted == 1
         with self.store.open() as session:
             assert session.edge("link", "x", "y").weight == 7
-            assert not self.store.kinds[1:] or session.edge("l", "b", "c").weight == 2
+            assert not self.store.kinds()[1:] or session.edge("l", "b", "c").weight == 2
 
     def end(self):
         self.store._kill()

@@ -40,7 +40,7 @@ class Reopened(JournalCase):
         with Store(self.path) as store, store.open() as session:
             edge = session.edge("Überweisung", "ana", "Иванов Пётр")
             self.assertEqual((str(edge.weight), edge.first.isoformat()), ("0.10", "2024-03-04T00:00:00+00:00"))
-            self.assertEqual((store.kinds, store.units.weight_scale, store.units.times), (["Überweisung"], 100, "iso"))
+            self.assertEqual((store.kinds(), store.units.weight_scale, store.units.times), (["Überweisung"], 100, "iso"))
         with Store(self.path, units=Units(decimals="float")) as store, store.open() as session:
             self.assertEqual(session.edge("Überweisung", "ana", "Иванов Пётр").weight, 0.1)
         for said in ({"units": Units(weight_scale=10)}, {"units": Units(times="number")}):

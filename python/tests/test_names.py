@@ -115,7 +115,7 @@ class Stores(Case):
         self.assertEqual(session.get_edges([(self.KIND, IVANOV, WANG), (self.KIND, WANG, IVANOV)]), [Edge(1, 0, 0), None])
         self.assertEqual((session.predecessors(IVANOV), session.predecessors(WANG)), ({}, {IVANOV: Edge(1, 0, 0)}))
         self.assertEqual(session.successors(SPACES, self.KIND), {LONG: Edge(3, 2, 2)})
-        self.assertEqual(store.kinds, [self.KIND])
+        self.assertEqual(store.kinds(), [self.KIND])
         self.assertIn(f"<td>{WANG}</td>", session.components()._repr_html_())
         self.assertEqual(session.levels(IVANOV, until=0).request, f"levels({IVANOV!r}, until=0)")
 
@@ -190,7 +190,7 @@ class Loads(Case):
         session = store.open()
         self.assertEqual(list(session.degrees()), OTHERS + ["a", "b", "a,b"])
         self.assertEqual((session.edge("k k", IVANOV, WANG), session.edge("k k", "a,b", WANG)), (Edge(1, 1, 1), Edge(2, 0, 0)))
-        self.assertEqual(store.kinds, ["k k"])
+        self.assertEqual(store.kinds(), ["k k"])
 
     def test_a_survey_from_before_there_was_a_store(self):
         found = misteluk.survey(Feed("f", self.ROWS), by="set")
@@ -236,7 +236,7 @@ class Commands(CommandCase):
     def people(self) -> tuple:
         text = f'от,кому\n{IVANOV},{WANG}\n{WANG},{SPACES}\n{IVANOV},"a\nb"\nann,{LONG}\n'
         (self.room / "p.csv").write_text(text, encoding="utf-8")
-        return str(self.room / "p.csv"), "--source", "от", "--target", "кому", "--set", "--kind", "шлёт"
+        return str(self.room / "p.csv"), "--source", "от", "--target", "кому", "--set", "--default-kind", "шлёт"
 
     def test_tables(self):
         status, out, err = self.run_it("load", *self.people(), "--ask", "degrees", "--ask", "components", "--levels", IVANOV,

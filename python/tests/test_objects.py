@@ -94,7 +94,7 @@ class Graphs(Case):
         table = {"source": ["a"], "target": ["b"], "weight": [7], "time": [3]}
         row, file = {"source": "a", "target": "b", "kind": "road"}, self.file("rows.csv", "source,target,weight\na,b,7\n")
         for data, told in ((table, r"Columns\(weight='weight', time='time'\), or --weight weight --time time"),
-                           ([row], r"Columns\(kind='kind'\), or --kind-column kind"), (file, r"rows.csv: only the columns")):
+                           ([row], r"Columns\(kind='kind'\), or --kind kind"), (file, r"rows.csv: only the columns")):
             store = self.store()
             with self.assertWarnsRegex(misteluk.errors.LeftOut, told):
                 store.load(data, by="set")

@@ -50,7 +50,7 @@ def answers_of(store):
     """What the last version says to every request, but in which order it has edges."""
     with store.open() as session:
         told = [session.version, session.vertex_count, sorted(session.edges()), list(session.vertices())]
-        kinds = itertools.product((None, *store.kinds), WINDOWS)
+        kinds = itertools.product((None, *store.kinds()), WINDOWS)
         asks = (session.degrees, session.components, session.cores, *(lambda it=it, **how: session.levels(it, **how)
                                                                       for it in session.vertices()[::5]))
         return [*told, *(list(ask(kind=kind, **window).items()) for kind, window in kinds for ask in asks)]
@@ -58,7 +58,7 @@ def answers_of(store):
 
 def told_of(store, loaded):
     """All that is told of a store into which a feed was loaded."""
-    return [loaded.commit, loaded.records, store.stat(), store.blocks, store.kinds, store.units, answers_of(store)]
+    return [loaded.commit, loaded.records, store.stat(), store.blocks, store.kinds(), store.units, answers_of(store)]
 
 
 class Opened:
@@ -153,7 +153,7 @@ class Loads(Case):
             store.load(rows, by=by)
             with store.open() as session:
                 self.assertEqual(sorted(session.edges()), sorted((*it, edge) for it, edge in graph.items()))
-                self.assertEqual((list(session.vertices()), store.kinds), (list(graph.names), list(graph.kinds)))
+                self.assertEqual((list(session.vertices()), store.kinds()), (list(graph.names), list(graph.kinds)))
 
     def test_as_many_rows_as_they_are(self):
         """Of 65,537 rows two batches are told of, and of one that is in a feed twice that it was updated."""
@@ -265,7 +265,7 @@ class Overflows(Case):
 class Restores(Case):
     def restored(self, path, **options):
         with Store.restore(path, **options) as store:
-            return [store.stat(), store.blocks, store.kinds, store.units, answers_of(store)]
+            return [store.stat(), store.blocks, store.kinds(), store.units, answers_of(store)]
 
     def differ(self, seeds, fault=contextlib.nullcontext):
         count, opened = 0, Opened()
@@ -323,7 +323,7 @@ class Scene:
         """Whether all rows are in or none, and a load after it adds them once more."""
         count = self.store.stat().version
         assert count in (0, 1) and len(self.told) <= count, (count, self.told)
-        assert self.store.kinds == ["link"] * count, self.store.kinds
+        assert self.store.kinds() == ["link"] * count, self.store.kinds()
         with self.store.open() as session:
             assert session.edge_count == 2 * count and not (count and session.edge("link", "a", "b") != (5, 1, 3))
         assert self.store.load(self.ROWS, by="add").commit.version == count + 1

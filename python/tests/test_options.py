@@ -12,9 +12,9 @@ from misteluk.serve.limits import ServerLimits
 
 NEVER = "9223372036854775807"
 # What each command has where nothing is said but what it wants.
-FEED = {"by": "add", "format": None, "source": "source", "target": "target", "kind_column": None, "weight": None, "time": None,
-        "kind": "link", "delimiter": None, "header": None, "encoding": "utf-8", "decimal": ".", "dates": None, "third": None,
-        "weight_scale": None, "rounding": None, "times": None, "names": "plain", "skip_bad": False, "blocks": None,
+FEED = {"by": "add", "format": None, "source": "source", "target": "target", "kind": None, "weight": None, "time": None,
+        "default_kind": "link", "delimiter": None, "header": None, "encoding": "utf-8", "decimal": ".", "dates": None,
+        "third": None, "weight_scale": None, "rounding": None, "times": None, "names": "plain", "skip_bad": False, "blocks": None,
         "batch": 4_096}
 PACE = {"every": "1s", "keep": None, "ahead": None, "rejects": None}
 WINDOW = {"of_kind": None, "since": "0", "until": NEVER}
@@ -39,8 +39,8 @@ USUAL = {
 OF_FEED = (("--set", "by", "set"), ("--add", "by", "add"), ("--format snap", "format", "snap"),
            ("--format matrix", "format", "matrix"), ("--format delimited", "format", "delimited"),
            ("--source 3", "source", 3), ("--source x", "source", "x"), ("--target 3", "target", 3),
-           ("--kind-column 3", "kind_column", 3), ("--weight w", "weight", "w"),
-           ("--time t", "time", "t"), ("--kind k", "kind", "k"), ("--delimiter ;", "delimiter", ";"),
+           ("--kind 3", "kind", 3), ("--weight w", "weight", "w"),
+           ("--time t", "time", "t"), ("--default-kind k", "default_kind", "k"), ("--delimiter ;", "delimiter", ";"),
            ("--header", "header", True), ("--no-header", "header", False), ("--encoding cp1252", "encoding", "cp1252"),
            ("--decimal ,", "decimal", ","), ("--third weight", "third", "weight"), ("--third time", "third", "time"),
            ("--weight-scale 100", "weight_scale", 100), ("--rounding half-even", "rounding", "half-even"),
@@ -113,7 +113,7 @@ class Options(Case):
                 self.assertEqual(self.parsed(f"{words} {way}{more}")[name], value, (words, more))
 
     def test_columns(self):
-        words = "load f --add --source a --target 2 --kind-column b --weight 3 --time c --kind d"
+        words = "load f --add --source a --target 2 --kind b --weight 3 --time c --default-kind d"
         self.assertEqual(columns_of(make_parser().parse_args(words.split())), Columns("a", 2, "b", 3, "c", "d"))
 
     def test_what_is_refused(self):

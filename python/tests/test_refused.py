@@ -48,7 +48,7 @@ REFUSALS = {
 
 def seen(store, sessions):
     """All that can be seen of a store and its sessions, and of a session of its last version."""
-    own = (store.stat(), store.pending, store._ledger.told_pending, store.kinds, store.units, store.blocks,
+    own = (store.stat(), store.pending, store._ledger.told_pending, store.kinds(), store.units, store.blocks,
            store._engine.operations_kept, store._engine.open_count)
     found = []
     for it in sessions:

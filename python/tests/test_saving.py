@@ -27,10 +27,10 @@ ENDINGS = ("", ".gz", ".xz", ".bz2")
 
 def answers_of(session, of_names):
     """What a session says to every request, and in which order, but for neighbors: those come as the blocks have them."""
-    told, store = [session.store.kinds, session.store.units, session.edge_count], session.store
+    told, store = [session.store.kinds(), session.store.units, session.edge_count], session.store
     asks = ((session.degrees,), (session.components,), (session.cores,), (session.weights_in,),
             *((ask, it) for it in of_names for ask in (session.levels, session.neighbors)))
-    for kind, (since, until), (ask, *given) in itertools.product((None, *store.kinds, "no kind"), WINDOWS, asks):
+    for kind, (since, until), (ask, *given) in itertools.product((None, *store.kinds(), "no kind"), WINDOWS, asks):
         try:
             found = list(ask(*given, kind=kind, since=since, until=until).items())
             told.append(sorted(found) if ask == session.neighbors else found)
@@ -76,8 +76,8 @@ class Saving(Case):
             session.save(path)
             with Store.restore(path, blocks=2048) as store, store.open() as copy:
                 is_model = (sorted(copy.edges()) == sorted((*it, edge) for it, edge in graph.items())
-                            and list(copy.degrees()) == list(graph.names) and store.kinds == list(graph.kinds))
-                with mock.patch.object(Store, "kinds", list(graph.kinds)):
+                            and list(copy.degrees()) == list(graph.names) and store.kinds() == list(graph.kinds))
+                with mock.patch.object(Store, "kinds", lambda _, kinds=list(graph.kinds): kinds):
                     count += not is_model or answers_of(copy, NAMES[::3]) != answers_of(session, NAMES[::3])
         return count
 
@@ -121,7 +121,7 @@ class Saving(Case):
                          "`stinger run --blocks 16384`")
         copy = self.restored(self.room / "s.csv", units=Units(decimals="float"))
         self.assertEqual((copy.blocks, copy.units), (64, replace(store.units, decimals="float")))
-        self.assertEqual((copy.open().edge("owes", "ann", "bob smith").weight, copy.kinds), (2.5, ["owes", "knows"]))
+        self.assertEqual((copy.open().edge("owes", "ann", "bob smith").weight, copy.kinds()), (2.5, ["owes", "knows"]))
 
     def test_empty_stores(self):
         for options in ({}, {"units": Units(weight_scale=10)}):
@@ -144,7 +144,7 @@ class Saving(Case):
             store.commit(collect=True)
             store.load([("v1", "v2", 2, 8, "l,m")], by="add")
         last = session.store.open()
-        with mock.patch.object(Store, "kinds", session.store.kinds):
+        with mock.patch.object(Store, "kinds", lambda _, kinds=session.store.kinds(): kinds):
             self.assertEqual(answers_of(copy.open(), NAMES[:3]), answers_of(last, NAMES[:3]))
         copy.open().save(self.room / "t.csv")
         last.save(self.room / "u.csv")

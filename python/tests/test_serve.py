@@ -38,12 +38,12 @@ class Answers(ServeCase):
         self.assertEqual(self.rows_of("/v1/degrees?top=1&by=weight_out"), [("funnel", 1, 2, 3850)])
         self.assertEqual(self.rows_of("/v1/edges"), [(*ends, *edge) for *ends, edge in session.edges()])
         self.assertEqual(self.rows_of("/v1/edges?top=1"), [("transfer", "funnel", "offshore", 3850, 3, 3)])
-        self.assertEqual(self.rows_of("/v1/out_of?vertex=funnel"), [("transfer", "funnel", "offshore", 3850, 3, 3)])
-        self.assertEqual([row[1] for row in self.rows_of("/v1/into?vertex=funnel")], ["ana", "ben"])
+        self.assertEqual(self.rows_of("/v1/out_edges?source=funnel"), [("transfer", "funnel", "offshore", 3850, 3, 3)])
+        self.assertEqual([row[1] for row in self.rows_of("/v1/in_edges?target=funnel")], ["ana", "ben"])
         self.assertEqual(self.ask("/v1/path?source=ana&target=offshore").json["path"], ["ana", "funnel", "offshore"])
-        self.assertEqual(dict(self.rows_of("/v1/within?vertex=ben&hops=1&direction=both")), {"ben": 0, "funnel": 1})
+        self.assertEqual(dict(self.rows_of("/v1/neighborhood?vertex=ben&hops=1&directed=false")), {"ben": 0, "funnel": 1})
         self.assertEqual(self.rows_of("/v1/names?like=N"), [("ana",), ("ben",), ("funnel",)])
-        self.assertIn(b"Around funnel", self.ask("/v1/view?vertex=funnel").body)
+        self.assertIn(b"Around funnel", self.ask("/v1/view?around=funnel").body)
 
     def test_the_page_s_files(self):
         """Each as it stands in the package; before the page's style stands that of a view."""
@@ -78,7 +78,7 @@ class Answers(ServeCase):
                 (404, "NoVertex", "/v1/levels?source=zed"), (404, "NoKind", "/v1/degrees?kind=zed"), (400, "BadWindow",
                 "/v1/edges?since=5&until=2"), (400, "BadTime", "/v1/edges?since=monday"), (400, "BadRequest", "/v1/levels"),
                 (400, "BadRequest", "/v1/levels?sorce=ana"), (400, "BadRequest", "/v1/levels?source=ana&source=ben"),
-                (400, "BadRequest", "/v1/within?vertex=ana&hops=-1"), (400, "BadRequest", "/v1/degrees?top=2&by=height"),
+                (400, "BadRequest", "/v1/neighborhood?vertex=ana&hops=-1"), (400, "BadRequest", "/v1/degrees?top=2&by=height"),
                 (404, "NoCall", "/v1/sql?q=1"), (404, "NoCall", "/etc/passwd"), (410, "SessionClosed", "/v1/cores?session=zed"),
                 (410, "SessionClosed", "/v1/cores?version=77"),
                 (410, "SessionClosed", f"/v1/cores?version={(1 << 63) - 1}"), (400, "BadRequest", f"/v1/cores?version={10**19}"),
@@ -110,6 +110,7 @@ class Answers(ServeCase):
                                                           session.path("boss", "offshore"))
                 graph, into = await session.ask(session.session.edges, kind="owes"), await session.in_edges("funnel")
                 self.assertEqual((session.version, session.is_open, len(into), "neighbors" in dir(session)), (1, True, 2, True))
+                self.assertEqual(await session.edge_count, len(await session.edges()))
                 with self.assertRaises(misteluk.NoVertex):
                     await session.successors("zed")
                 for name in ("nothing", "_terms"):  # (what is the session's own stays its own)
@@ -158,7 +159,7 @@ class Level(ServeCase):
         name = self.post("/v1/sessions").json["session"]
         held = [f"/v1/{it}{mark}session={name}" for it, mark in (
             ("edge?kind=transfer&source=ana&target=funnel", "&"), ("degrees", "?"), ("levels?source=ana", "&"), ("edges", "?"),
-            ("names?like=n", "&"), ("into?vertex=funnel", "&"), ("view?vertex=funnel", "&"))]
+            ("names?like=n", "&"), ("in_edges?target=funnel", "&"), ("view?around=funnel", "&"))]
         before, kept, versions = [self.ask(it).body for it in held], [], []
         with connect(self.server.url) as of_session, of_session.open(version=1) as session, connect(self.server.url) as feed:
             edges, cores = list(session.edges()), session.cores()
@@ -337,7 +338,7 @@ class Feeds(ServeCase):
         with open(path, "a") as file:
             file.write("bob,cat,7,2\n")
         as_soon_as(lambda: self.ask("/v1/stat").json["feed"]["rows"] == 2)
-        self.assertEqual(self.rows_of("/v1/out_of?vertex=bob"), [("link", "bob", "cat", 7, 2, 2)])
+        self.assertEqual(self.rows_of("/v1/out_edges?source=bob"), [("link", "bob", "cat", 7, 2, 2)])
         with open(path, "a") as file:
             file.write("bob,cat,many,2\n")
         as_soon_as(lambda: self.ask("/v1/stat").json["feed"]["state"] == "failed")

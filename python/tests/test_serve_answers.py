@@ -26,7 +26,7 @@ if HAS_PACKAGES:
     from misteluk.serve.flow import Flow, Shares
 
 ODD = ('a "quoted" name', "a,b", "line\nbreak", "Иванов Пётр")
-ASKED = {"out_of": "vertex=ana", "into": "vertex=funnel", "levels": "source=ana", "within": "vertex=ana&hops=2"}
+ASKED = {"out_edges": "source=ana", "in_edges": "target=funnel", "levels": "source=ana", "neighborhood": "vertex=ana&hops=2"}
 
 
 class Csv(ServeCase):
@@ -223,9 +223,9 @@ class Described(unittest.TestCase):
     def test_what_calls_are_asked_with(self):
         paths, whole = described()["paths"], {"type": "integer", "minimum": 0}
         for path, method, name, place, is_needed, schema in (
-                ("/v1/within", "get", "vertex", "query", True, {"type": "string"}),
-                ("/v1/within", "get", "hops", "query", True, {**whole, "maximum": 1_000}),
-                ("/v1/within", "get", "direction", "query", False, {"type": "string", "enum": ["out", "both"]}),
+                ("/v1/neighborhood", "get", "vertex", "query", True, {"type": "string"}),
+                ("/v1/neighborhood", "get", "hops", "query", True, {**whole, "maximum": 1_000}),
+                ("/v1/neighborhood", "get", "directed", "query", False, {"type": "string", "enum": ["true", "false"]}),
                 ("/v1/stat", "get", "after", "query", False, whole), ("/v1/sessions", "post", "version", "query", False, whole),
                 ("/v1/rows", "post", "Idempotency-Key", "header", False, {"type": "string"}),
                 ("/v1/feeder/{feeder}/batches/{number}", "delete", "number", "path", True, {"type": "string"})):

@@ -101,7 +101,7 @@ class Apart(FollowCase):
             told = [(kind, source, target, str(edge.weight), edge.recent.day) for kind, source, target, edge in session.edges()]
         self.assertEqual(sorted(told), [("owes money", "Иванов Пётр", "bob", "0.25", 2),
                                         ("pays", "ana", "Иванов Пётр", "13.50", 3)])
-        self.assertEqual(list(self.server.store.kinds), ["pays", "owes money"])
+        self.assertEqual(list(self.server.store.kinds()), ["pays", "owes money"])
 
     def test_a_window(self):
         """Commits expire what is older than is kept."""

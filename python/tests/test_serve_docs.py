@@ -119,7 +119,7 @@ class Page(ServeCase):
                 self.assertEqual(failed, 0, said.getvalue())
                 known, count = page.globs, count + tried
             if "hers" in block and "close" not in block:  # (what the page says that a browser shows)
-                url = f"http://127.0.0.1:{self.port}/v1/view?vertex=kassel&hops=1&beside=1"
+                url = f"http://127.0.0.1:{self.port}/v1/view?around=kassel&hops=1&beside=1"
                 self.assertRegex(urllib.request.urlopen(url).read().decode(), "<b>6</b>\\s*gone")
         self.assertEqual(([(it["version"], it["clients"]) for it in held], count), ([(2, 0)], 17))
         as_soon_as(lambda: not self.is_there())

@@ -137,15 +137,15 @@ class Requests(ServeCase):
         self.serve()
         for kind in ("TEXT/CSV", "Text/csv; charset=utf-8", "text/csv; charset=utf-8; charset=utf-8"):
             self.assertEqual(self.ask("/v1/rows", "POST", b"add,k,ana,ben,1,1\n", Content_Type=kind).status, 200, kind)
-        for path in ("/", "/live.css", "/v1/view?vertex=ana"):
+        for path in ("/", "/live.css", "/v1/view?around=ana"):
             self.assertLessEqual(self.ask(path).headers["content-type"].count("charset"), 1, path)
-        self.assertEqual(self.ask("/v1/view?vertex=ana").headers["content-type"], "text/html; charset=utf-8")
+        self.assertEqual(self.ask("/v1/view?around=ana").headers["content-type"], "text/html; charset=utf-8")
 
     def test_a_view_by_its_address(self):
         """A browser that is led there runs its one script alone, and lets it ask nobody."""
         self.fed()
         told = dict(it.strip().partition(" ")[::2] for it in
-                    self.ask("/v1/view?vertex=ana").headers["content-security-policy"].split(";"))
+                    self.ask("/v1/view?around=ana").headers["content-security-policy"].split(";"))
         self.assertEqual((told["default-src"], told["frame-ancestors"], "connect-src" in told), ("'none'", "'none'", False))
         self.assertRegex(told["script-src"], r"\A'sha256-[A-Za-z0-9+/=]{44}'\Z")
 

@@ -140,7 +140,7 @@ class Page(ServeCase):
         browser.wait_for("document.getElementById('edges').textContent === '4'")
         self.assertTrue(browser.see("document.getElementById('working').hidden"))
         browser.see("window.asked = fetch; window.begin = {}; window.fetch = (path, ...given) => path.startsWith('v1/view') ? "
-                    "new Promise((done) => { begin[path.match(/vertex=(\\w+)/)[1]] = done }).then(() => asked(path, ...given)) : "
+                    "new Promise((done) => { begin[path.match(/around=(\\w+)/)[1]] = done }).then(() => asked(path, ...given)) : "
                     "asked(path, ...given); 0")
         for vertex in ("funnel", "ana"):
             browser.see(f"document.getElementById('vertex').value = '{vertex}'; document.getElementById('look').requestSubmit()")
@@ -223,7 +223,7 @@ class Page(ServeCase):
         self.assertEqual((self.text(browser, "fault"), browser.see("window.gone")), (told, 0))
         asked = browser.see("window.asked")
         self.assertEqual([[it for it in asked if part in it] for part in ("v1/view", "v1/names")],
-                         [["v1/view?vertex=nobody&hops=2"], []])
+                         [["v1/view?around=nobody&hops=2"], []])
 
     def test_a_fault_of_the_user_and_one_of_the_server(self):
         """Both are read, and the server's goes by itself when it answers again."""

@@ -361,9 +361,9 @@ class Running(ServeCase):
         many, few = (b'{"call": "found", "ends": [%s]}' % b", ".join([b'["transfer", "ana", "funnel"]'] * it) for it in (65, 64))
         table = b'{"call": "degrees"}'
         for method, path, body, wanted in (
-                ("GET", edge, None, []), ("GET", "/v1/out_of?vertex=ana", None, ["quick"]),
+                ("GET", edge, None, []), ("GET", "/v1/out_edges?source=ana", None, ["quick"]),
                 ("GET", "/v1/edges", None, ["slow"]), ("GET", "/v1/levels?source=ana", None, ["slow"]),
-                ("GET", "/v1/into?vertex=funnel", None, ["slow"]), ("POST", "/v1/ask", b'{"questions": []}', ["slow"]),
+                ("GET", "/v1/in_edges?target=funnel", None, ["slow"]), ("POST", "/v1/ask", b'{"questions": []}', ["slow"]),
                 ("POST", ask, b'{"call": "edges"}', ["slow"]), ("POST", ask, many, ["quick"]), ("POST", ask, few, []),
                 ("POST", ask, b'{"call": "out_of", "name": "ana"}', []), ("POST", ask, table, ["slow"]), ("POST", ask, table, []),
                 ("GET", "/v1/sessions", None, ["quick"]), ("PUT", f"/v1/sessions/{session}", None, ["held"]),

@@ -25,7 +25,7 @@ LINES = "# the team\nrita read token-of-rita\n\nfred  feed\ttoken-of-fred\nalma 
 CALLS = {
     "none": ["GET /", "GET /live.js", "GET /looking.js", "GET /asking.js", "GET /live.css", "GET /openapi.json",
              "GET /healthz", "GET /readyz"],
-    "read": ["GET /v1/edge", "GET /v1/out_of", "GET /v1/into", "GET /v1/edges", "GET /v1/levels", "GET /v1/within",
+    "read": ["GET /v1/edge", "GET /v1/out_edges", "GET /v1/in_edges", "GET /v1/edges", "GET /v1/levels", "GET /v1/neighborhood",
              "GET /v1/path", "GET /v1/degrees", "GET /v1/weights_in", "GET /v1/components", "GET /v1/cores", "GET /v1/names",
              "GET /v1/view", "GET /v1/stat", "GET /metrics", "GET /v1/events",
              "POST /v1/ask", "POST /v1/sessions", "GET /v1/sessions",
@@ -259,7 +259,7 @@ class Roles(ServeCase):
         """A line for each refusal, post and hold, with neither a token, nor a session's name, nor what was asked."""
         self.begin()
         with heard() as lines:
-            self.ask("/v1/out_of?vertex=secret-name")
+            self.ask("/v1/out_edges?source=secret-name")
             self.post("/v1/rows", {"rows": FEED}, **self.as_one("read"))
             self.post("/v1/rows", {"rows": FEED}, **self.as_one("feed"))
             session = self.hold("read")

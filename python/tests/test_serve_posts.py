@@ -299,9 +299,9 @@ class Budgets(ServeCase):
             self.assertEqual((found.status, found.json), (400, {
                 "error": "BadCommand", "reason": f"row {at + 1}: an operation is insert, add, remove, expire"}))
         names = self.server.store._ledger.terms.names
-        self.assertEqual((self.ask("/v1/stat").json["version"], len(names), len(self.server.store.kinds)), (0, 0, 0))
+        self.assertEqual((self.ask("/v1/stat").json["version"], len(names), len(self.server.store.kinds())), (0, 0, 0))
         self.assertEqual(self.post("/v1/rows", {"rows": rows}).json["inserted"], 10_000)
-        self.assertEqual((len(names), list(self.server.store.kinds)), (10_000, ["k"]))
+        self.assertEqual((len(names), list(self.server.store.kinds())), (10_000, ["k"]))
 
 
 if __name__ == "__main__":

@@ -87,7 +87,7 @@ class Rows(ServeCase):
             found = seen_rows(rows, terms)
             self.assertEqual(found, [row_of(terms.turned([{"add": "a", "insert": "i"}[it[0]], *it[1:]])[0]) for it in rows])
             records = [it for part in feeding._records(rows) for it in part]
-            self.assertEqual((records, list(self.server.store.kinds)), (found, ["k", "l"]))
+            self.assertEqual((records, list(self.server.store.kinds())), (found, ["k", "l"]))
             for more in (["remove", "k", "a", "b"], ["expire", "5"], ["add", "k", "a", "b", "many", "1"], ["Add", *rows[0][1:]],
                          ["add", "k", "a", "Иванов", "5", times[0]], ["add", "*", "a", "b", "5", times[0]],
                          ["add", "k", "", "b", "5", times[0]], ["add", "k", "a b", "b", "5", times[0]],

@@ -119,7 +119,7 @@ class Views(ServeCase):
     def test_the_frame_says_what_was_chosen(self):
         """The page of a neighborhood, in a page that shows it: a click, another, and a double click."""
         self.fed(["add", "k", "a\"b<i>", "hub", 1, 1])
-        page = self.ask("/v1/view?vertex=hub&hops=1").body.decode()
+        page = self.ask("/v1/view?around=hub&hops=1").body.decode()
         path = self.file("frame.html", "<iframe id='it'></iframe><script>window.told = []; "
                          "addEventListener('message', (event) => told.push(event.data)); "
                          f"document.getElementById('it').srcdoc = {json.dumps(page).replace('</', '<' + chr(92) + '/')}</script>")

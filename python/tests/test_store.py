@@ -331,6 +331,15 @@ class Stores(Case):
         self.refused(misteluk.errors.BadWindow, "since 2 is after until 1", lambda: session.predecessors("a", since=2, until=1))
         self.assertEqual(session.degrees()["a"], Degree(1, 0, 1))
 
+    def test_what_a_session_has(self):
+        """It is said of what a store is asked for in a session's place, and of nothing else."""
+        store = self.store()
+        for name in ("edges", "degrees", "edge_count", "vertex_count", "version"):
+            with self.assertRaisesRegex(AttributeError, f"a store has no '{name}', but a session does: .*`session.{name}`"):
+                getattr(store, name)
+        for name in ("edgez", "_terms", "__wrapped__"):
+            self.assertRaisesRegex(AttributeError, f"object has no attribute '{name}'", getattr, store, name)
+
     def test_seats(self):
         store = self.store(seats=1)
         with store.open() as session:

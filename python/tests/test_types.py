@@ -91,7 +91,8 @@ class Types(Case):
                  "rounded = Units(100, rounding='up')", "cents.load([('a', 'b')], by='sum')",
                  "cents.load([('a', 'b')], by='set', colums=None)", "cents.load([('a', 'b')], by='set', format='csv')",
                  "later: Edges[int, int] = cents.open().edges()", "heavy: int = cents.open().edges().top(1)[0][3].weight",
-                 "cut = Store(block=16)", "gone: int = cents.open().diff(cents.open()).changed[0].before.weight",
+                 "cut = Store(block=16)", "edges = whole.edges()", "cents.add('k', 'a', 'b', amount=1)",
+                 "gone: int = cents.open().diff(cents.open()).changed[0].before.weight",
                  "walk: str = (cents.open().path('a', 'b', edges=True) or [])[0][3].weight"]
         path = self.of_user(*wrong)
         told = self.judge(pathlib.Path(path)).stdout

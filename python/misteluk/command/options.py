@@ -37,8 +37,9 @@ def asked(text: str) -> Question:
 BLOCKS = "as many as are needed, and no fewer than 16,384"
 
 
-QUESTIONS = ("degrees, weights_in, components, cores or edges, with a kind behind them or none; 'levels NAME', 'into NAME', "
-             "'out_of NAME', 'neighbors NAME', 'within NAME HOPS', 'path SOURCE TARGET' or 'edge KIND SOURCE TARGET'")
+QUESTIONS = ("degrees, weights_in, components, cores or edges, with a kind behind them or none; 'levels NAME', 'predecessors "
+             "NAME', 'successors NAME', 'neighbors NAME', 'neighborhood NAME HOPS', 'path SOURCE TARGET' or 'edge KIND SOURCE "
+             "TARGET'")
 
 
 def add_feed_options(parser: argparse.ArgumentParser, blocks: str = BLOCKS, saved: str = "", is_needed: bool = True,
@@ -53,11 +54,11 @@ def add_feed_options(parser: argparse.ArgumentParser, blocks: str = BLOCKS, save
     feed = parser.add_argument_group("what the file is")
     feed.add_argument("--format", choices=("delimited", "snap", "matrix"), help="else the file's name says")
     for name, usual, told in (("source", "source", "source"), ("target", "target", "target"),
-                              ("kind-column", None, "else --kind"), ("weight", None, "else weights are 1"),
+                              ("kind", None, "else --default-kind"), ("weight", None, "else weights are 1"),
                               ("time", None, "else times are 0")):
         feed.add_argument(f"--{name}", type=column, default=usual, metavar="COLUMN",
                           help=f"a column's name, or its number from 1 ({told})")
-    feed.add_argument("--kind", default="link", help="the kind of all edges, where no column has it (else link)")
+    feed.add_argument("--default-kind", default="link", metavar="KIND", help="the kind of edges whose row has none (link)")
     feed.add_argument("--delimiter", help="else the comma, tab, semicolon or bar of which the first line has most")
     feed.add_argument("--header", action=argparse.BooleanOptionalAction, help="else there is one where columns are named")
     feed.add_argument("--encoding", default="utf-8", help="the file's, as cp1252, latin-1 or utf-16 (utf-8)")
@@ -203,4 +204,4 @@ def make_parser() -> argparse.ArgumentParser:
 
 def columns_of(words: argparse.Namespace) -> Columns:
     """The feed's columns, as they were said."""
-    return Columns(words.source, words.target, words.kind_column, words.weight, words.time, words.kind)
+    return Columns(words.source, words.target, words.kind, words.weight, words.time, words.default_kind)

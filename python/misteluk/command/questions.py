@@ -11,12 +11,10 @@ from ..values.names import shown
 from ..session import Session
 
 # How many names each question has, a kind behind them aside; the kind of an edge stands before them.
-NAMES = {"degrees": 0, "weights_in": 0, "components": 0, "cores": 0, "edges": 0, "levels": 1, "into": 1, "out_of": 1,
-         "neighbors": 1, "within": 2, "path": 2, "edge": 3}
+NAMES = {"degrees": 0, "weights_in": 0, "components": 0, "cores": 0, "edges": 0, "levels": 1, "predecessors": 1,
+         "successors": 1, "neighbors": 1, "neighborhood": 2, "path": 2, "edge": 3}
 FORMS = {0: "[KIND]", 1: "NAME [KIND]", 2: "SOURCE TARGET [KIND]", 3: "KIND SOURCE TARGET"}
-OF_WITHIN = "NAME HOPS [KIND]"
-# The calls of a session for the edges of a vertex.
-CALLS = {"into": "predecessors", "out_of": "successors"}
+OF_NEIGHBORHOOD = "NAME HOPS [KIND]"
 # The value of a table of one; the others have several, and are sorted by one of these.
 VALUES = {"cores": "core", "weights_in": "weight_in"}
 
@@ -49,8 +47,8 @@ def question(text: str) -> Question:
         raise ValueError(f"a question is one of {', '.join(NAMES)}, and not {what!r}")
     count = NAMES[what]
     is_right = count <= len(words) <= count + (what != "edge")
-    if not is_right or what == "within" and not words[1].isdecimal():
-        form = OF_WITHIN if what == "within" else FORMS[count]
+    if not is_right or what == "neighborhood" and not words[1].isdecimal():
+        form = OF_NEIGHBORHOOD if what == "neighborhood" else FORMS[count]
         spaces = ". A name with spaces stands within quotes" if len(words) > count > 0 else ""
         raise ValueError(f"{what} is asked as `{what} {form}`, and not as {text!r}{spaces}")
     kind = words[count] if len(words) > count else None
@@ -65,16 +63,16 @@ def _window(it: Question, window: Dict[str, Any]) -> Dict[str, Any]:
 def _table(it: Question, session: Session[Any, Any], top: int, column: str, window: Dict[str, Any]) -> Dict[str, Any]:
     table: Any = getattr(session, it.what)(**_window(it, window))
     value = VALUES.get(it.what)
-    most = table.top(top, None if value else column)
-    rows = [{"name": name, **({value: found} if value else vars(found))} for name, found in most]
+    rows = [{"name": name, **({value: found} if value else vars(found))}
+            for name, found in table.top(top, None if value else column)]
     told: Dict[str, Any] = {"greatest": max(table.values(), default=0)} if value else {"by": column}
-    return {"names": len(table), **told, "most": rows}
+    return {"vertices": len(table), **told, "top": rows}
 
 
 def _components(it: Question, session: Session[Any, Any], top: int, _: str, window: Dict[str, Any]) -> Dict[str, Any]:
     labels = session.components(**_window(it, window))
     most = [{"name": name, "size": size} for name, size in labels.top(top)]
-    return {"components": len(labels.sizes()), "names": len(labels), "most": most}
+    return {"components": len(labels.sizes()), "vertices": len(labels), "top": most}
 
 
 def _levels(it: Question, session: Session[Any, Any], _: int, __: str, window: Dict[str, Any]) -> Dict[str, Any]:
@@ -84,10 +82,10 @@ def _levels(it: Question, session: Session[Any, Any], _: int, __: str, window: D
 
 
 def _beside(it: Question, session: Session[Any, Any], top: int, _: str, window: Dict[str, Any]) -> Dict[str, Any]:
-    edges: Dict[str, Edge[Any, Any]] = getattr(session, CALLS[it.what])(it.names[0], **_window(it, window))
+    edges: Dict[str, Edge[Any, Any]] = getattr(session, it.what)(it.names[0], **_window(it, window))
     weights: Dict[str, Any] = {name: edge.weight for name, edge in edges.items()}
     most = sorted(weights, key=weights.__getitem__, reverse=True)[:top]
-    return {"edges": len(edges), "most": [{"name": name, **edges[name]._asdict()} for name in most]}
+    return {"edges": len(edges), "top": [{"name": name, **edges[name]._asdict()} for name in most]}
 
 
 def _weight_either_way(row: Tuple[str, Neighbor[Any, Any]]) -> Any:
@@ -109,27 +107,27 @@ def _neighbors(it: Question, session: Session[Any, Any], top: int, _: str, windo
     """The neighbors with the most weight either way first."""
     found = session.neighbors(it.names[0], **_window(it, window))
     most = sorted(found.items(), key=_weight_either_way, reverse=True)[:top]
-    return {"neighbors": len(found), "most": [{"name": name, **{way: None if edge is None else edge._asdict() for way, edge in
+    return {"neighbors": len(found), "top": [{"name": name, **{way: None if edge is None else edge._asdict() for way, edge in
                                                                  vars(both).items()}} for name, both in most]}
 
 
-def _within(it: Question, session: Session[Any, Any], top: int, _: str, window: Dict[str, Any]) -> Dict[str, Any]:
+def _neighborhood(it: Question, session: Session[Any, Any], top: int, _: str, window: Dict[str, Any]) -> Dict[str, Any]:
     """The vertices that are reached, the nearest first."""
     found = session.neighborhood(it.names[0], int(it.names[1]), **_window(it, window))
     nearest = sorted(found.items(), key=lambda row: row[1])[:top]
-    return {"reached": len(found), "most": [{"name": name, "level": level} for name, level in nearest]}
+    return {"reached": len(found), "top": [{"name": name, "level": level} for name, level in nearest]}
 
 
 def _edges(it: Question, session: Session[Any, Any], top: int, _: str, window: Dict[str, Any]) -> Dict[str, Any]:
     """The edges with the greatest weights."""
     found = session.edges(**_window(it, window))
     rows = [{"kind": kind, "source": source, "target": target, **edge._asdict()} for kind, source, target, edge in found.top(top)]
-    return {"edges": len(found), "most": rows}
+    return {"edges": len(found), "top": rows}
 
 
 _ANSWERS = {"degrees": _table, "weights_in": _table, "cores": _table, "components": _components, "levels": _levels,
-            "into": _beside, "out_of": _beside, "neighbors": _neighbors, "within": _within, "edges": _edges, "path": _path,
-            "edge": _edge}
+            "predecessors": _beside, "successors": _beside, "neighbors": _neighbors, "neighborhood": _neighborhood,
+            "edges": _edges, "path": _path, "edge": _edge}
 
 
 def lines(asked: Question, found: Dict[str, Any], top: int) -> Iterator[str]:
@@ -147,7 +145,7 @@ def lines(asked: Question, found: Dict[str, Any], top: int) -> Iterator[str]:
         yield f"{asked.text}: {_told_edge(found['edge'])}"
     else:
         yield f"{asked.text}: {_head(found)}"
-        yield from (f"  {_name(it)} {_row(it)}" for it in found["most"])
+        yield from (f"  {_name(it)} {_row(it)}" for it in found["top"])
 
 
 def _told_edge(edge: Optional[Dict[str, Any]]) -> str:
@@ -161,7 +159,7 @@ def _name(row: Dict[str, Any]) -> str:
 
 def _head(found: Dict[str, Any]) -> str:
     if "components" in found:
-        return f"{found['components']} of {found['names']} names"
+        return f"{found['components']} of {found['vertices']} names"
     if "neighbors" in found:
         return f"{found['neighbors']} neighbor{'s' * (found['neighbors'] != 1)}"
     if "reached" in found:
@@ -169,7 +167,7 @@ def _head(found: Dict[str, Any]) -> str:
     if "edges" in found:
         return f"{found['edges']} edge{'s' * (found['edges'] != 1)}"
     how = f"greatest by {found['by']}" if "by" in found else f"greatest {found['greatest']}"
-    return f"{found['names']} names, {how}"
+    return f"{found['vertices']} names, {how}"
 
 
 def _row(row: Dict[str, Any]) -> str:

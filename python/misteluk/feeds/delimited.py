@@ -17,7 +17,7 @@ from ..values.fields import fields_of
 AT_ONCE = 1 << 22
 NO_ROW: Tuple[Sequence[str], int] = ((), 0)
 # Columns that are read only where they are named, and the commands' options for that.
-OPTIONS = {"kind": "--kind-column", "weight": "--weight", "time": "--time"}
+OPTIONS = {"kind": "--kind", "weight": "--weight", "time": "--time"}
 
 
 def delimited(path: Path, columns: Columns = Columns(), *, delimiter: Optional[str] = None, header: Optional[bool] = None,

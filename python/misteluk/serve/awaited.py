@@ -4,7 +4,7 @@ from __future__ import annotations
 import asyncio
 import functools
 from types import TracebackType
-from typing import Any, Callable, Generic, List, Optional, Type, TypeVar
+from typing import Any, Awaitable, Callable, Generic, List, Optional, Type, TypeVar
 
 from .client import connect
 from ..session import Session
@@ -51,6 +51,17 @@ class AsyncSession(Generic[W, T]):
             raise
         found._close = store.close
         return found
+
+    @property
+    def edge_count(self) -> Awaitable[int]:
+        """The number of edges, which is awaited as calls are: it may ask a server.
+
+        >>> async def counted() -> int:
+        ...     return await awaited.edge_count
+        >>> asyncio.run(counted())
+        4
+        """
+        return self.ask(getattr, self.session, "edge_count")
 
     async def ask(self, call: Callable[..., R], *given: Any, **named: Any) -> R:
         """Returns what any call gives, made in a thread. An `AsyncSession` among its arguments stands for its `session`.

@@ -58,8 +58,8 @@ const shown = async (what, title, made) => {
 const link = (name) => element("a", name, { href: `#${new URLSearchParams({ vertex: name, hops: the("hops").value })}` });
 
 const neighborhood = (it) => shown("vertex", it.get("vertex"), async () => {
-    const known = ["vertex", ...fields.vertex, ...filters].filter((name) => it.has(name));
-    const page = await (await ask(`v1/view?${new URLSearchParams(known.map((name) => [name, it.get(name)]))}`)).text();
+    const known = [...fields.vertex, ...filters].filter((name) => it.has(name));
+    const page = await (await ask(`v1/view?${new URLSearchParams([["around", it.get("vertex")], ...known.map((name) => [name, it.get(name)])])}`)).text();
     return () => {
         // (a frame of its own for each page: one that gets its page while it is hidden stays without a height in some browsers)
         const view = the("view").cloneNode();

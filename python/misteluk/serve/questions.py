@@ -129,8 +129,8 @@ def _levels(session: "Session[Any, Any]", given: Given) -> Iterator[bytes]:
     return table(session, session.levels(given["source"], **_scope(given)), given)
 
 
-def _within(session: "Session[Any, Any]", given: Given) -> Iterator[bytes]:
-    is_directed = given.get("direction", "out") == "out"
+def _neighborhood(session: "Session[Any, Any]", given: Given) -> Iterator[bytes]:
+    is_directed = given.get("directed", "true") == "true"
     return table(session, session.neighborhood(given["vertex"], given["hops"], **_scope(given), directed=is_directed), given)
 
 
@@ -143,12 +143,12 @@ def _edges(session: "Session[Any, Any]", given: Given) -> Iterator[bytes]:
     return edges(session, session.edges(**_scope(given)), given)
 
 
-def _out_of(session: "Session[Any, Any]", given: Given) -> Iterator[bytes]:
-    return edges(session, session.out_edges(given["vertex"], **_scope(given)), given)
+def _out_edges(session: "Session[Any, Any]", given: Given) -> Iterator[bytes]:
+    return edges(session, session.out_edges(given["source"], **_scope(given)), given)
 
 
-def _into(session: "Session[Any, Any]", given: Given) -> Iterator[bytes]:
-    return edges(session, session.in_edges(given["vertex"], **_scope(given)), given)
+def _in_edges(session: "Session[Any, Any]", given: Given) -> Iterator[bytes]:
+    return edges(session, session.in_edges(given["target"], **_scope(given)), given)
 
 
 def _path(session: "Session[Any, Any]", given: Given) -> Iterator[bytes]:
@@ -166,7 +166,7 @@ def _names(session: "Session[Any, Any]", given: Given) -> Iterator[bytes]:
 
 
 def _view(session: "Session[Any, Any]", given: Given) -> Iterator[bytes]:
-    made = view(session, given["vertex"], given.get("hops", 2), given.get("beside_session"), **_scope(given),
+    made = view(session, given["around"], given.get("hops", 2), given.get("beside_session"), **_scope(given),
                 most=given.get("most", USUAL_DRAWN))
     yield made.html.encode("utf-8")
 
@@ -177,23 +177,22 @@ SCOPE = (Parameter("kind", "edges of this kind; else of any"),
          Parameter("since", "edges with a recent time from this on"), Parameter("until", "and up to this"))
 TOP = (Parameter("top", "the rows with the greatest values alone, so many", least=0, most=100_000),)
 BY = (Parameter("by", "by which column the greatest are", choices=OF_DEGREES),)
-VERTEX = (Parameter("vertex", "a vertex's name", True),)
-ENDS = (Parameter("source", "a vertex's name", True), Parameter("target", "a vertex's name", True))
-WAY = Parameter("direction", "along edges, or either way", choices=("out", "both"))
+VERTEX, SOURCE, TARGET, AROUND = (Parameter(it, "a vertex's name", True) for it in ("vertex", "source", "target", "around"))
+DIRECTED = Parameter("directed", "along edges alone, or either way", choices=("true", "false"))
 HOPS = Parameter("hops", "how many steps away", True, 0, 1_000)
 
 OF_EDGES, OF_LEVELS = ("kind", "source", "target", *Edge._fields), ("name", "level")
 
 QUESTIONS = (
-    ServedQuestion("edge", "one edge, or null", (Parameter("kind", "a kind", True), *ENDS), _edge, way=AT_ONCE),
-    ServedQuestion("out_of", "the edges that go out of a vertex", (*VERTEX, *SCOPE, *TOP), _out_of, OF_EDGES, QUICK),
-    ServedQuestion("into", "the edges that come into a vertex", (*VERTEX, *SCOPE, *TOP), _into, OF_EDGES),
+    ServedQuestion("edge", "one edge, or null", (Parameter("kind", "a kind", True), SOURCE, TARGET), _edge, way=AT_ONCE),
+    ServedQuestion("out_edges", "the edges that go out of a vertex", (SOURCE, *SCOPE, *TOP), _out_edges, OF_EDGES, QUICK),
+    ServedQuestion("in_edges", "the edges that come into a vertex", (TARGET, *SCOPE, *TOP), _in_edges, OF_EDGES),
     ServedQuestion("edges", "all edges", (*SCOPE, *TOP), _edges, OF_EDGES),
     ServedQuestion("levels", "how many steps each vertex is from a source that is reached from it",
-                   (Parameter("source", "a vertex's name", True), *SCOPE, *TOP), _levels, OF_LEVELS),
-    ServedQuestion("within", "the vertices within so many steps",
-                   (*VERTEX, HOPS, WAY, *SCOPE, *TOP), _within, OF_LEVELS),
-    ServedQuestion("path", "a shortest walk as its names, or null", (*ENDS, *SCOPE), _path),
+                   (SOURCE, *SCOPE, *TOP), _levels, OF_LEVELS),
+    ServedQuestion("neighborhood", "the vertices within so many steps", (VERTEX, HOPS, DIRECTED, *SCOPE, *TOP), _neighborhood,
+                   OF_LEVELS),
+    ServedQuestion("path", "a shortest walk as its names, or null", (SOURCE, TARGET, *SCOPE), _path),
     ServedQuestion("degrees", "how many edges go out of each vertex and come in, and the weight that goes out",
                    (*SCOPE, *TOP, *BY), _table("degrees"), ("name", *OF_DEGREES)),
     ServedQuestion("weights_in", "the weight that comes into each vertex", (*SCOPE, *TOP), _table("weights_in"),
@@ -204,7 +203,7 @@ QUESTIONS = (
     ServedQuestion("names", "names of vertices that have a text", (Parameter("like", "a part of a name"), *TOP), _names,
                    ("name",)),
     ServedQuestion("view", "a page of a vertex's neighborhood, beside that of another version where one is said",
-                   (*VERTEX, HOPS._replace(is_needed=False, most=MOST_HOPS),
+                   (AROUND, HOPS._replace(is_needed=False, most=MOST_HOPS),
                     Parameter("beside", "a version that is held", least=0),
                     Parameter("most", "how many vertices are drawn", least=1, most=MOST_DRAWN), *SCOPE), _view,
                    media="text/html; charset=utf-8"),
