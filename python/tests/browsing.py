@@ -1,6 +1,7 @@
 """Headless Chromium as a person uses it: pages of a server, clicks, and what is seen, by its own protocol over two pipes."""
 from __future__ import annotations
 
+import atexit
 import base64
 import json
 import os
@@ -8,43 +9,60 @@ import pathlib
 import shutil
 import subprocess
 import tempfile
-from typing import Any, Dict, List, Optional, Sequence
+from typing import Any, Dict, List, Mapping, Optional, Sequence, Tuple
 
 from pages import CHROMIUM
 from support import as_soon_as
 
 
-class Browser:
-    """A browser with one page. `see` evaluates an expression there. `options` are more of Chromium's own; without them it is as
-    people have it, who see a sandboxed frame by a process of its own."""
+# Counts a picture's pixels.
+PIXELS = """(async () => {
+    const image = new Image();
+    image.src = %s;
+    await image.decode();
+    const place = new OffscreenCanvas(image.width, image.height).getContext("2d"), half = image.width / 2;
+    place.drawImage(image, 0, 0);
+    const count = (color, left) => { const data = place.getImageData(left, 0, half, image.height).data; let found = 0;
+        for (let at = 0; at < data.length; at += 4) found += color.every((it, part) => Math.abs(data[at + part] - it) < 24);
+        return found; };
+    return [image.width, image.height, %s.map((it) => [count(it, 0), count(it, half)])];
+})()"""
 
-    def __init__(self, width: int = 1280, height: int = 900, options: Sequence[str] = ()) -> None:
+
+class Chromium:
+    """A process of the browser, with the pages of one test after another."""
+
+    # Those that run, by their words: they end with this process.
+    running: "Dict[Tuple[str, ...], Chromium]" = {}
+
+    def __init__(self, words: Sequence[str]) -> None:
         self._room = tempfile.mkdtemp()
         asked, told = os.pipe(), os.pipe()
-        words = [CHROMIUM or "", "--headless", "--no-sandbox", "--disable-gpu", "--hide-scrollbars", "--disable-extensions",
-                 "--no-first-run", "--remote-debugging-pipe", f"--window-size={width},{height}", f"--user-data-dir={self._room}",
-                 *options, "about:blank"]
+        command = [CHROMIUM or "", "--headless", "--no-sandbox", "--disable-gpu", "--hide-scrollbars", "--disable-extensions",
+                   "--no-first-run", "--remote-debugging-pipe", f"--user-data-dir={self._room}", *words, "about:blank"]
 
         def ends() -> None:  # (Chromium reads descriptor 3 and writes 4)
             mine = os.dup(asked[0]), os.dup(told[1])
             os.dup2(mine[0], 3)
             os.dup2(mine[1], 4)
-        self._process = subprocess.Popen(words, stdout=subprocess.DEVNULL, stderr=subprocess.DEVNULL, preexec_fn=ends,
+        self._process = subprocess.Popen(command, stdout=subprocess.DEVNULL, stderr=subprocess.DEVNULL, preexec_fn=ends,
                                          pass_fds=(3, 4, asked[0], told[1]))
         os.close(asked[0])
         os.close(told[1])
         self._out, self._in = os.fdopen(asked[1], "wb", buffering=0), os.fdopen(told[0], "rb", buffering=0)
         self._number, self._left = 0, b""
-        self._page: Optional[str] = None
-        self.logged: List[str] = []
-        target = self._call("Target.createTarget", url="about:blank")["targetId"]
-        self._page = self._call("Target.attachToTarget", targetId=target, flatten=True)["sessionId"]
-        self._call("Runtime.enable")
-        self._call("Log.enable")
+        atexit.register(self.close)
 
-    def _call(self, method: str, **given: Any) -> Dict[str, Any]:
+    @classmethod
+    def of(cls, *words: str) -> Chromium:
+        if words not in cls.running:
+            cls.running[words] = cls(words)
+        return cls.running[words]
+
+    def call(self, method: str, given: Mapping[str, Any], page: Optional[str], logged: List[str]) -> Dict[str, Any]:
+        """What a call gives, of a page where one is said, whose log is kept meanwhile."""
         self._number += 1
-        told = {"id": self._number, "method": method, "params": given, **({"sessionId": self._page} if self._page else {})}
+        told = {"id": self._number, "method": method, "params": given, **({"sessionId": page} if page else {})}
         self._out.write(json.dumps(told).encode() + b"\0")
         while True:
             found = self._next()
@@ -52,8 +70,8 @@ class Browser:
                 if "error" in found:
                     raise AssertionError(f"{method}: {found['error']}")
                 return dict(found["result"])
-            if found.get("method") == "Log.entryAdded":
-                self.logged.append(found["params"]["entry"]["text"])
+            if found.get("method") == "Log.entryAdded" and found.get("sessionId") == page:
+                logged.append(found["params"]["entry"]["text"])
 
     def _next(self) -> Dict[str, Any]:
         while b"\0" not in self._left:
@@ -63,6 +81,36 @@ class Browser:
             self._left += more
         line, _, self._left = self._left.partition(b"\0")
         return dict(json.loads(line))
+
+    def close(self) -> None:
+        try:
+            self.call("Browser.close", {}, None, [])
+            self._process.wait(30)
+        except (AssertionError, OSError, subprocess.TimeoutExpired):
+            self._process.kill()
+            self._process.wait()
+        self._out.close()
+        self._in.close()
+        shutil.rmtree(self._room, ignore_errors=True)
+
+
+class Browser:
+    """A person's browser with one page, which knows nothing of others. `see` evaluates an expression there. `options` are more of
+    Chromium's own; without them it is as people have it, who see a sandboxed frame by a process of its own."""
+
+    _page: Optional[str] = None
+
+    def __init__(self, options: Sequence[str] = ()) -> None:
+        self._chromium = Chromium.of("--window-size=1280,900", *options)
+        self.logged: List[str] = []
+        self._context = self._call("Target.createBrowserContext")["browserContextId"]
+        target = self._call("Target.createTarget", url="about:blank", browserContextId=self._context)["targetId"]
+        self._page = self._call("Target.attachToTarget", targetId=target, flatten=True)["sessionId"]
+        self._call("Runtime.enable")
+        self._call("Log.enable")
+
+    def _call(self, method: str, **given: Any) -> Dict[str, Any]:
+        return self._chromium.call(method, given, self._page, self.logged)
 
     def go(self, url: str) -> None:
         self._call("Page.navigate", url=url)
@@ -88,18 +136,18 @@ class Browser:
     def size(self, width: int, height: int, is_phone: bool = False) -> None:
         self._call("Emulation.setDeviceMetricsOverride", width=width, height=height, deviceScaleFactor=1, mobile=is_phone)
 
+    def pixels(self, colors: Sequence[str]) -> Any:
+        """How many pixels are nearly of each color, as #d55e00, in the left and in the right half of what is seen."""
+        wanted = [[*bytes.fromhex(it[1:])] for it in colors]
+        shot = self._call("Page.captureScreenshot", format="png")["data"]
+        self.go("about:blank")  # (what is seen may forbid itself pictures)
+        return self.see(PIXELS % (json.dumps(f"data:image/png;base64,{shot}"), wanted))
+
     def picture(self, path: "str | os.PathLike[str]", whole: bool = False) -> None:
+        """Writes what is seen, or the whole page, as PNG."""
         found = self._call("Page.captureScreenshot", format="png", captureBeyondViewport=whole)
         pathlib.Path(path).write_bytes(base64.b64decode(found["data"]))
 
     def close(self) -> None:
         self._page = None
-        try:
-            self._call("Browser.close")
-            self._process.wait(30)
-        except (AssertionError, OSError, subprocess.TimeoutExpired):
-            self._process.kill()
-            self._process.wait()
-        self._out.close()
-        self._in.close()
-        shutil.rmtree(self._room, ignore_errors=True)
+        self._call("Target.disposeBrowserContext", browserContextId=self._context)

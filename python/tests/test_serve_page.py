@@ -17,8 +17,8 @@ ODD = ("<script>alert(1)</script>", "</script><img src=x onerror=document.title=
 
 @unittest.skipUnless(CHROMIUM, NO_CHROMIUM)
 class Page(ServeCase):
-    def open(self, **how):
-        browser = Browser(**how)
+    def open(self):
+        browser = Browser()
         self.addCleanup(browser.close)
         browser.go(self.server.url)
         return browser

@@ -25,8 +25,8 @@ CONTRAST = """(() => {
 
 @unittest.skipUnless(CHROMIUM, NO_CHROMIUM)
 class Views(ServeCase):
-    def open(self, hash_of="", **how):
-        browser = Browser(**how)
+    def open(self, hash_of=""):
+        browser = Browser()
         self.addCleanup(browser.close)
         browser.go(f"{self.server.url}/{hash_of}")
         browser.wait_for("document.getElementById('edges').textContent !== '–'")

@@ -1,11 +1,12 @@
 """The page of a view in Chromium: what it says there, what a reader's deeds show, and its colors."""
 import html
 import json
-import re
+import pathlib
 import unittest
 
 import test_view
-from pages import CHROMIUM, NO_CHROMIUM, Pixels, Reader, browse
+from browsing import Browser
+from pages import CHROMIUM, NO_CHROMIUM, Reader
 from support import Case
 from test_view import AFTER, BEFORE, ODD, rows_of
 
@@ -13,7 +14,8 @@ from misteluk import view
 from misteluk.page.neighborhood import CHANGED, GONE, KEPT, NEW
 
 GONE_COLOR, NEW_COLOR, CHANGED_COLOR = "#d55e00", "#0072b2", "#93509e"
-WIDE = "--window-size=1300,900"
+# A frame that has a process of its own may be late for what is seen.
+IN_ONE = ("--disable-features=IsolateSandboxedIframes",)
 # What is done to a page by a reader, and what is seen then: names of vertices and edges by their classes, and rows that are left.
 DEEDS = """<script>
     const names = (query) => [...new Set(all(query).map((it) => it.getAttribute("aria-label") ?? it.dataset.edge))].sort();
@@ -41,6 +43,14 @@ DEEDS = """<script>
 class Browsers(Case):
     pair = test_view.Views.pair
 
+    def browse(self, name, page, *size):
+        """A browser that shows a page."""
+        browser = Browser(IN_ONE)
+        self.addCleanup(browser.close)
+        browser.size(*size or (1300, 900))
+        browser.go(pathlib.Path(self.file(name, page)).as_uri())
+        return browser
+
     def test_the_page_in_chromium(self):
         """It shows what its text says, runs no script but its own, and loads nothing."""
         store = self.store(*BEFORE)
@@ -50,8 +60,7 @@ class Browsers(Case):
         first = store.open()
         self.feed(store, *AFTER)
         found = view(first, "funnel", beside=store.open())
-        found.save(self.room / "page.html")
-        dom = Reader(browse(str(self.room / "page.html"), "--dump-dom"))
+        dom = Reader(self.browse("page.html", found.html).see("document.documentElement.outerHTML"))
         self.assertEqual({row[0] for row in rows_of(dom, "vertices")}, {*ODD, "ana", "ben", "boss", "funnel", "offshore", "zed"})
         self.assertEqual([dom.texts[it].split()[0] for it in (GONE, NEW, CHANGED, KEPT)], ["1", "1", "1", "10"])
         self.assertEqual(dom.elements["script"], 1)
@@ -59,8 +68,8 @@ class Browsers(Case):
     def test_pointing_searching_clicking(self):
         first, last = self.pair(BEFORE, AFTER)
         page = view(first, "funnel", beside=last).html
-        path = self.file("deeds.html", page.replace("</body>", DEEDS + "</body>"))
-        seen = json.loads(html.unescape(re.search(r"<body[^>]*>(.*)</body>", browse(path, "--dump-dom", WIDE), re.S)[1]))
+        browser = self.browse("deeds.html", page.replace("</body>", DEEDS + "</body>"))
+        seen = json.loads(browser.see("document.body.textContent"))
         every = sorted(["ana", "ben", "boss", "funnel", "offshore", "zed"])
         self.assertEqual((seen["nothing"]["focused"], seen["nothing"]["rows"], seen["nothing"]["told"]), (False, every, ""))
         self.assertEqual((seen["point"]["core"], seen["point"]["lit"], seen["point"]["edges"]), (["ben"], ["ben", "funnel"], 1))
@@ -84,8 +93,7 @@ class Browsers(Case):
                 "    if (box.x < 0 || box.x + box.width > wide) cut.push(it.textContent);\n}\n"
                 "const count = document.querySelectorAll('.picture .name').length;\n"
                 "document.body.textContent = JSON.stringify({cut, count});</script>")
-        dumped = browse(self.file("wide.html", page.replace("</body>", look + "</body>")), "--dump-dom", WIDE)
-        seen = json.loads(html.unescape(re.search(r"<body[^>]*>(.*)</body>", dumped, re.S)[1]))
+        seen = json.loads(self.browse("wide.html", page.replace("</body>", look + "</body>")).see("document.body.textContent"))
         self.assertEqual((seen["count"], seen["cut"]), (300, []))
 
     def test_colors(self):
@@ -98,13 +106,9 @@ class Browsers(Case):
                  f'<iframe srcdoc="{html.escape(bare)}" sandbox="allow-scripts" width="880" height="440" frameborder="0">'
                  "</iframe>")
         for page in (bare, frame):
-            path = self.file("page.html", page)
-            browse(path, f"--screenshot={self.room / 'page.png'}", "--window-size=880,440")
-            pixels = Pixels(str(self.room / "page.png"))
-            self.assertEqual((pixels.width, pixels.height), (880, 440))
-            left, right = range(440), range(440, 880)
-            counts = {color: (pixels.count(color, left), pixels.count(color, right))
-                      for color in (GONE_COLOR, NEW_COLOR, CHANGED_COLOR)}
+            *size, found = self.browse("page.html", page, 880, 440).pixels((GONE_COLOR, NEW_COLOR, CHANGED_COLOR))
+            self.assertEqual(size, [880, 440])
+            counts = dict(zip((GONE_COLOR, NEW_COLOR, CHANGED_COLOR), found))
             self.assertTrue(counts[GONE_COLOR][0] > 8 and counts[GONE_COLOR][1] == 0, counts)
             self.assertTrue(counts[NEW_COLOR][0] == 0 and counts[NEW_COLOR][1] > 40, counts)
             self.assertTrue(min(counts[CHANGED_COLOR]) > 8, counts)
