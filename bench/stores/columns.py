@@ -5,7 +5,7 @@ import array
 import random
 import threading
 from ctypes import CDLL, byref, c_uint32, c_uint64
-from typing import Any, Dict, List, Tuple
+from typing import Any, Dict, List
 
 from bench.calls import VIEW, at, columns, must, written_to
 from bench.places import BLOCKS, library

@@ -8,7 +8,6 @@ import os
 import random
 import signal
 import sys
-import time
 import warnings
 
 from support import HERE, row

@@ -2,7 +2,7 @@
 import random
 import unittest
 from contextlib import contextmanager
-from datetime import date, datetime, timedelta, timezone
+from datetime import datetime, timedelta, timezone
 from decimal import Decimal
 from unittest import mock
 

@@ -9,7 +9,7 @@ from unittest import mock
 from support import Case, HERE, row
 
 import misteluk
-from misteluk import Edge, Limits, Store
+from misteluk import Edge, Limits
 from misteluk.engine import library
 from misteluk.values import limits
 

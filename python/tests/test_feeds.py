@@ -16,7 +16,6 @@ from misteluk import Columns, Commit, Edge
 from misteluk.feeds.delimited import delimited
 from misteluk.feeds.feed import Feed
 from misteluk.feeds import feed as feeds, loading
-from misteluk.values import records
 from misteluk.values.units import Units
 
 TRANSFERS = "from,to,amount,when\nana,funnel,980,1\nben,funnel,950,1\nana,funnel,20,5\n"

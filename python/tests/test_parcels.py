@@ -4,6 +4,7 @@ import gc
 import io
 import os
 import struct
+import sys
 import unittest
 from array import array
 from contextlib import redirect_stderr
@@ -11,16 +12,17 @@ from unittest import mock
 
 from support import Case
 
-from misteluk.feeds import parcels, pipes
+from misteluk.feeds import pipes
 from misteluk.feeds.progress import Progress, no_collection
 from misteluk.feeds.rejects import Rejected
 from misteluk.feeds.spans import ahead_time, shown_length
 from misteluk.feeds.steps import FeedMark, FeedPlace, Followed
 from misteluk.values.answers import Commit
+from misteluk.values.parcels import packed, unpacked
 from misteluk.values.units import Units
 
 # Columns of each type that a parcel has, and one of none.
-COLUMNS = [b"ab", array("I", (1, 2, 3)), array("q", (-5, 1 << 40)), array("Q", ((1 << 63) - 1,)), array("B", (7,)), array("I"),
+COLUMNS = [b"ab", array("I", (1, 2, 3)), array("q", (-5, 1 << 40)), array("Q", (1 << 63,)), array("B", (7,)), array("I"),
            b""]
 TYPES = "BIqQBIB"
 
@@ -65,29 +67,49 @@ class Parcels(Pipes):
     def test_what_goes_over_comes_over(self):
         out, into = self.pipe()
         for head, columns, types in (({"a": [1, "\u00e9"]}, COLUMNS, TYPES), ({}, [], ""), ({"b": None}, [b"x"], "B")):
-            parcels.send(into, parcels.packed(head, columns))
-            found = parcels.received(out)
+            pipes.send(into, packed(columns, **head))
+            found = pipes.received(out)
             self.assertEqual("".join(it.typecode for it in found.columns), types)
             self.assertEqual([it.tobytes() for it in found.columns], [bytes(it) for it in columns])
             self.assertEqual({name: it for name, it in found.head.items() if name != "columns"}, head)
 
     def test_how_it_is_written(self):
-        data = parcels.packed({"a": 1}, [b"xy", array("I", (3,))])
-        head = b'{"a": 1, "columns": [["B", 2], ["I", 1]]}'
-        self.assertEqual(data, struct.pack("=QQ", len(head), 6) + head + b"xy" + struct.pack("=I", 3))
+        """Behind its length; the least byte of a number comes first, whatever machine writes or reads."""
+        wanted = b'{"a": 1, "columns": [["B", 2], ["I", 2], ["q", 1], ["Q", 1]]}\n' + b"xy" + bytes((1, 0, 0, 0, 4, 3, 2, 1)) + (
+            b"\xfe" + b"\xff" * 7 + bytes(7) + b"\x80")
+        columns = [b"xy", array("I", (1, 0x01020304)), array("q", (-2,)), array("Q", (1 << 63,))]
+        out, into = self.pipe()
+        pipes.send(into, packed(columns, a=1))
+        self.assertEqual(os.read(out, 1 << 16), struct.pack("=Q", len(wanted)) + wanted)
+        swapped = [it[:] for it in columns]
+        for it in swapped[1:]:
+            it.byteswap()
+        with mock.patch.object(sys, "byteorder", "big" if sys.byteorder == "little" else "little"):
+            self.assertEqual(b"".join(packed(swapped, a=1)), wanted)
+            self.assertEqual(unpacked(wanted).columns[1:], swapped[1:])
+
+    def test_parts(self):
+        long = array("I", range(100_000))
+        head, *parts = packed([long])
+        self.assertEqual((head, list(map(len, parts))), (b'{"columns": [["I", 100000]]}\n', [262_144, 137_856]))
+        self.assertEqual(unpacked(b"".join([head, *parts])).columns, [long])
 
     def test_what_does_not_come_whole(self):
         """Of a parcel that is cut at any place there is none."""
-        data = parcels.packed({"a": 1}, COLUMNS)
+        told = b"".join(packed(COLUMNS, a=1))
+        data = struct.pack("=Q", len(told)) + told
         for end in range(len(data)):
             out, into = self.pipe()
             os.write(into, data[:end])
             os.close(into)
-            self.assertIsNone(parcels.received(out), end)
+            self.assertIsNone(pipes.received(out), end)
             os.close(out)
+        for wrong in (*(told[:end] for end in range(len(told))), told + b"x"):
+            self.assertRaises(ValueError, unpacked, wrong)
 
     def test_what_comes_in_pieces(self):
-        data, out = memoryview(parcels.packed({"a": 1}, COLUMNS)), 0
+        told = b"".join(packed(COLUMNS, a=1))
+        data, out = memoryview(struct.pack("=Q", len(told)) + told), 0
         pieces = [data[at:at + 7] for at in range(0, len(data), 7)]
 
         def some(_, rooms):
@@ -98,7 +120,7 @@ class Parcels(Pipes):
             pieces[:0] = [more] if more else []
             return len(piece)
         with mock.patch("os.readv", some):
-            found = parcels.received(out)
+            found = pipes.received(out)
         self.assertEqual(([it.tobytes() for it in found.columns], pieces), ([bytes(it) for it in COLUMNS], []))
 
 

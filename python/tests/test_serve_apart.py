@@ -6,9 +6,7 @@ import re
 import signal
 import subprocess
 import sys
-import threading
 import unittest
-from array import array
 from contextlib import suppress
 from unittest import mock
 
@@ -17,7 +15,7 @@ from support import as_soon_as
 
 import misteluk
 from misteluk import Columns, Units, connect
-from misteluk.feeds import apart, parcels, reader
+from misteluk.feeds import apart, reader
 from misteluk.serve.server import Server
 
 AS_ROWS = ("--add", "--source", "1", "--target", "2", "--weight", "3", "--time", "4", "--every", "10ms")
@@ -50,31 +48,7 @@ def read_by(pid, path):
     return None
 
 
-class Parcels(unittest.TestCase):
-    HEAD = {"rows": 3, "texts": {"~~a": "Иванов"}}
-
-    def received(self, data):
-        ours, theirs = os.pipe()
-        with os.fdopen(theirs, "wb") as file:
-            threading.Thread(target=lambda: file.write(data) and file.close()).start()
-            try:
-                found = parcels.received(ours)
-                return found, parcels.received(ours)
-            finally:
-                os.close(ours)
-
-    def test_what_is_sent_comes(self):
-        columns = [b"ab", array("Q", [1, 1 << 63]), array("q", [-5]), array("I"), array("B", [3])]
-        (head, found), rest = self.received(parcels.packed(self.HEAD, columns))
-        self.assertEqual((head["rows"], head["texts"], rest), (3, {"~~a": "Иванов"}, None))
-        self.assertEqual([(it.typecode, it.tolist()) for it in found],
-                         [("B", [97, 98]), ("Q", [1, 1 << 63]), ("q", [-5]), ("I", []), ("B", [3])])
-
-    def test_what_is_cut_is_nothing(self):
-        data = parcels.packed({"rows": 1}, [array("I", [7])])
-        for size in range(1, len(data)):
-            self.assertEqual(self.received(data[:size]), (None, None), size)
-
+class Readers(unittest.TestCase):
     def test_where_what_is_read_begins(self):
         """Behind the lines that were in before."""
         following, outbox = mock.MagicMock(**{"_place.done": 7}), mock.Mock()

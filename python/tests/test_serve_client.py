@@ -10,9 +10,10 @@ from misteluk import Commit, SessionClosed, Stat, StoreError
 from misteluk.engine.operations import Operations
 from misteluk.engine.protocol import WHOLE, Denied
 from misteluk.errors import Busy, NoAnswer, NoServer, NotAllowed, Refused
-from misteluk.serve import client, wire
+from misteluk.serve import client
 from misteluk.serve.client import ServedEngine, ServedStore
 from misteluk.serve.talk import Told
+from misteluk.values.parcels import packed
 
 STAT = {"version": 7, "vertices": 3, "edges": 2, "blocks": {"all": 64, "grow": True, "free": 50, "retired": 4, "used": 10},
         "seats": 5, "limits": {"idle": 60.0, "body": 999},
@@ -100,7 +101,7 @@ class Engines(unittest.TestCase):
 
     def test_a_version_that_is_closed_asks_nothing(self):
         held = self.held()
-        self.talk.answers["POST", "/v1/sessions/s0/ask"] = b"".join(wire.packed([array("I", (1, 2, 3))]))
+        self.talk.answers["POST", "/v1/sessions/s0/ask"] = b"".join(packed([array("I", (1, 2, 3))]))
         self.assertEqual(list(held.cores(WHOLE)), [1, 2, 3])
         held.close()
         self.talk.taken()

@@ -15,7 +15,7 @@ from contextlib import redirect_stdout, suppress
 from itertools import islice, takewhile
 
 from serving import ServeCase
-from support import HERE, TOP, as_soon_as, row
+from support import HERE, TOP, as_soon_as
 from test_tutorial import is_like
 
 PAGE = TOP / "docs/SERVE.md"

@@ -8,8 +8,7 @@ import unittest
 import unittest.mock
 from typing import Any, Callable, Coroutine, List
 
-import support  # noqa: F401
-
+import support  # noqa: F401  (which says where the package is)
 from misteluk.serve.precedence import PATIENCE, Precedence
 
 # What a loop may be late by on a busy machine.

@@ -2,9 +2,7 @@
 import asyncio
 import json
 import logging
-import sys
 import unittest
-from array import array
 from unittest import mock
 
 from serving import Clock, HAS_PACKAGES, NO_PACKAGES
@@ -19,7 +17,6 @@ from misteluk.serve.limits import ServerLimits
 from misteluk.serve.metrics import Counts, Spread, gauge, of_numbers
 from misteluk.serve.people import EVERYONE, NOBODY, People, Person
 from misteluk.serve.talk import Talk, Told, fault_of, part
-from misteluk.values.names import NameTable
 
 if HAS_PACKAGES:
     from misteluk.serve.door import Door
@@ -220,45 +217,7 @@ class Responses(unittest.TestCase):
                 self.assertEqual(other.call_args[0][1:], (data, "GET"))
 
 
-class Columns(unittest.TestCase):
-    ROWS = [array("I", (1, 0x01020304)), array("q", (-2,)), array("Q", (1 << 63,)), array("I")]
-
-    def test_bytes(self):
-        """The least byte of a number comes first, whatever machine writes or reads."""
-        wanted = (b'[["I", 2], ["q", 1], ["Q", 1], ["I", 0]]\n' + bytes((1, 0, 0, 0, 4, 3, 2, 1)) + b"\xfe" + b"\xff" * 7
-                  + bytes(7) + b"\x80")
-        self.assertEqual(b"".join(wire.packed(self.ROWS)), wanted)
-        self.assertEqual(wire.unpacked(wanted), self.ROWS)
-        swapped = [array(it.typecode, it) for it in self.ROWS]
-        for it in swapped:
-            it.byteswap()
-        with mock.patch.object(sys, "byteorder", "big" if sys.byteorder == "little" else "little"):
-            self.assertEqual(b"".join(wire.packed(swapped)), wanted)
-            self.assertEqual(wire.unpacked(wanted), swapped)
-
-    def test_what_is_not_whole(self):
-        data = b"".join(wire.packed(self.ROWS))
-        for wrong in (*(data[:end] for end in range(len(data))), data + b"x"):
-            self.assertRaises(ValueError, wire.unpacked, wrong)
-
-    def test_parts(self):
-        long = array("I", range(100_000))
-        head, *parts = wire.packed([long])
-        self.assertEqual((head, list(map(len, parts))), (b'[["I", 100000]]\n', [262_144, 137_856]))
-        self.assertEqual(wire.unpacked(b"".join([head, *parts])), [long])
-
-    def test_names(self):
-        """However names were told before: those that follow others, fewer ones, others, and ids with their texts."""
-        table = NameTable()
-        named, wang = wire.Named(table), table.to_program("wang wei")
-        for names in ([], ["a"], ["a", "b"], ["a", "b", "c", "d"], ["a"], ["x", "b"], ["a", wang], ["a"], [wang],
-                      ["a", "b", wang]):
-            texts = {wang: "wang wei"} if wang in names else {}
-            self.assertEqual(json.loads(named.told(names)), {"names": names, "texts": texts})
-            self.assertEqual(wire.taken({"names": names, "texts": texts}, NameTable()), names)
-        wrong = {"names": [], "texts": {"x": "wang wei"}}
-        self.assertRaisesRegex(ValueError, "the server has x for 'wang wei'", wire.taken, wrong, NameTable())
-
+class Faults(unittest.TestCase):
     def test_faults(self):
         self.assertEqual(wire.fault("A", "b"), {"error": "A", "reason": "b"})
         self.assertEqual(wire.fault("A", "b", 3, c=4), {"error": "A", "reason": "b", "retry_after": 3, "c": 4})

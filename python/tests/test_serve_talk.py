@@ -17,6 +17,7 @@ from misteluk.serve.checking import seen_rows
 from misteluk.serve.limits import ServerLimits
 from misteluk.serve.people import EVERYONE
 from misteluk.values.names import NameTable
+from misteluk.values.parcels import unpacked
 
 if HAS_PACKAGES:
     from misteluk.serve import asking
@@ -110,6 +111,9 @@ class Names(unittest.TestCase):
             texts = {known: "Иванов Пётр"} if known in names else {}
             self.assertEqual(json.loads(named.told(names)), {"names": names, "texts": texts})
             self.assertEqual(json.loads(wire.Named(table).told(names)), {"names": names, "texts": texts})
+            self.assertEqual(wire.taken({"names": names, "texts": texts}, NameTable()), names)
+        wrong = {"names": [], "texts": {"x": "Иванов Пётр"}}
+        self.assertRaisesRegex(ValueError, "the server has x for 'Иванов Пётр'", wire.taken, wrong, NameTable())
 
     def test_names_are_written_once(self):
         """Of names that follow others the new ones alone."""
@@ -129,7 +133,7 @@ class Calls(unittest.TestCase):
                                  ("levels", ("a",), row), ("within", ("a", 3, True), row), ("path", ("a", "b"), table),
                                  ("out_of", ("a",), row), ("into", ("a",), row)):
             held = mock.Mock(**{f"{call}.return_value": told})
-            found = wire.unpacked(b"".join(wire.asked(held, call, self.GIVEN, None)))
+            found = unpacked(b"".join(wire.asked(held, call, self.GIVEN, None))).columns
             getattr(held, call).assert_called_once_with(Scope("k", 2, 5), *more)
             self.assertEqual(found, [told] if told is table else told)
 
@@ -230,8 +234,6 @@ class Asked(ServeCase):
         with connect(self.server.url) as of_session, of_session.open() as session, self.server.store.open() as local:
             self.assertEqual(list(session.out_edges("hub")), list(local.out_edges("hub")))
             self.assertEqual(len(session.out_edges("hub")), 100)
-        row = wire.unpacked(b'[["I", 2], ["Q", 1]]\n' + array("I", [1, 2]).tobytes() + array("Q", [9]).tobytes())
-        self.assertEqual([it.tolist() for it in row], [[1, 2], [9]])
 
 
 if __name__ == "__main__":

@@ -2,14 +2,13 @@
 that can be read is as it was before."""
 import ctypes
 import itertools
-import os
 import pathlib
 import subprocess
 import tempfile
 import unittest
 from typing import Any, Callable, List, Optional, Tuple
 
-from calls import TOP, Batch, Code, Desk, Library, Operation, Owner, Refused, Version, fields, interface, must, view, whole
+from calls import Batch, Code, Desk, Library, Operation, Owner, Refused, Version, fields, interface, must, view, whole
 from places import compiler, linker, static_library
 
 INSERT, ADD, REMOVE, EXPIRE = interface.INSERT, interface.ADD, interface.REMOVE, interface.EXPIRE

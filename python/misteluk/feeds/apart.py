@@ -13,16 +13,15 @@ from contextlib import nullcontext
 from types import TracebackType
 from typing import Any, Callable, ContextManager, Iterator, NamedTuple, Optional, Sequence, Type
 
-from . import parcels
 from .following import Following
-from .parcels import Parcel
-from .pipes import how_ended, widen
+from .pipes import how_ended, received, widen
 from .reader import AT_ITS_END, AT_ONCE, Wanted
 from .rejects import Lines, Rejected
 from .steps import FeedPlace
 from ..engine.operations import Encoded, Numbered, Operations
 from ..errors import StoreError
 from ..values.answers import Commit
+from ..values.parcels import Parcel
 
 LOG = logging.getLogger("misteluk.feeds")
 # For how many seconds a process may be silent that is to stop, and how many may be killed without a batch of theirs going in.
@@ -154,7 +153,7 @@ class Apart(Iterator[Applied]):
 
     def _received(self) -> Optional[Parcel]:
         self._since = time.monotonic()
-        parcel = parcels.received(self._out)
+        parcel = received(self._out)
         self._since = None
         return parcel
 

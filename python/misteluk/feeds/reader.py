@@ -14,14 +14,15 @@ import traceback
 from itertools import islice
 from typing import Any, Dict, List, NamedTuple, Optional, Tuple
 
-from . import parcels
 from .following import Following, following_of
+from .pipes import send
 from .rejects import Lines
 from .steps import FeedPlace, Recipe
 from ..engine.operations import Operations, Row
 from ..errors import StoreError
 from ..values.answers import NOTHING, Commit
 from ..values.names import NameTable
+from ..values.parcels import packed
 from .terms import Terms
 from ..values.units import Units
 
@@ -91,11 +92,11 @@ class Outbox:
 
     def skip(self, following: Following) -> None:
         """Sends that rows were skipped, where no batch is there to be sent."""
-        parcels.send(self._descriptor, parcels.packed(self._head(following)))
+        send(self._descriptor, packed((), **self._head(following)))
 
     def leave(self) -> None:
         """Sends that another file took the place of the one that is read."""
-        parcels.send(self._descriptor, parcels.packed({"left": True}))
+        send(self._descriptor, packed((), left=True))
 
     def send(self, following: Following) -> None:
         """Sends a batch with how far the feed is in by it, with the kinds and texts of ids that are new."""
@@ -103,12 +104,12 @@ class Outbox:
         texts = self._names.since(self._texts_sent)
         self._kinds_sent, self._texts_sent = self._kinds_sent + len(kinds), self._texts_sent + len(texts)
         of = self._batch.columns
-        head = {**self._head(following), "kinds": kinds, "texts": texts}
-        parcels.send(self._descriptor, parcels.packed(head, [*of.of_kinds.encoded, *of.of_names.encoded, *of[:6]]))
+        columns = [*of.of_kinds.encoded, *of.of_names.encoded, *of[:6]]
+        send(self._descriptor, packed(columns, **self._head(following), kinds=kinds, texts=texts))
 
     def end(self, **how: Any) -> None:
         """Sends the last that there is."""
-        parcels.send(self._descriptor, parcels.packed(how))
+        send(self._descriptor, packed((), **how))
 
 
 def read(following: Following, outbox: Outbox) -> None:

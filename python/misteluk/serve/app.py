@@ -1,7 +1,6 @@
 """The server's calls over HTTP, each by its route."""
 from __future__ import annotations
 
-import json
 import pkgutil
 import re
 from typing import Any, Callable, Dict, Iterator, Mapping, Optional, Tuple

@@ -20,6 +20,7 @@ from ..store import Store
 from ..values.answers import Collected, Commit, Stat, T, W
 from ..values.limits import MOST_BLOCKS, Limits
 from ..values.names import NameTable
+from ..values.parcels import unpacked
 from ..values.units import Units, units_given
 
 _AN_ID = re.compile(rb"~~[A-Za-z0-9_-]{20}")
@@ -69,7 +70,7 @@ class ServedVersion:
             raise SessionClosed(f"the session of version {self.number} is closed")
 
     def _columns(self, call: str, scope: Scope, **given: Any) -> List[array[int]]:
-        return wire.unpacked(self._ask(call, kind=scope.kind, since=scope.since, until=scope.until, **given))
+        return unpacked(self._ask(call, kind=scope.kind, since=scope.since, until=scope.until, **given)).columns
 
     def _list(self, call: str) -> List[str]:
         if call not in self._lists:

@@ -15,7 +15,7 @@ from . import answers
 from .limits import RUN
 from .server import UNIX
 from ..engine.protocol import Denied
-from ..errors import TABLE, Misread, NoAnswer, NoServer, SessionClosed, StoreError, TooLarge, refusal
+from ..errors import TABLE, Misread, NoAnswer, NoServer, StoreError, TooLarge, refusal
 from ..feeds.pipes import has_more
 from ..values.answers import Stat
 

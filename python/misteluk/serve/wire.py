@@ -1,58 +1,24 @@
 """What a server and its clients in Python write to each other: a version's columns as they are in memory, and faults.
 
 A client in Python asks as an engine is asked, in the engine's terms, so that its sessions are those of a store in the process.
-An answer of columns is a line of JSON that tells their types and lengths, and then their bytes, the least one of a number first.
+Columns go as a parcel.
 """
 from __future__ import annotations
 
 import json
-import sys
 from array import array
 from typing import Any, Dict, Iterator, List, Mapping, Optional, Sequence, Tuple
 
-from .limits import BYTES_AT_ONCE
 from ..engine.protocol import WHOLE, Denied, Held, Scope
 from ..errors import Misread
 from ..values import records
 from ..values.names import MARK, NameTable
+from ..values.parcels import packed
 
 # The media types of what is written.
 COLUMNS, JSON = "application/octet-stream", "application/json"
-# How many bytes the numbers of a column may have: those that are used here.
-WIDTHS = {"I": 4, "q": 8, "Q": 8}
 # How many bytes a row of a table has at most.
 WIDEST = 16
-
-
-# Columns.
-
-def packed(columns: "Sequence[array[int]]") -> Iterator[bytes]:
-    """Columns as bytes, part by part."""
-    yield json.dumps([[it.typecode, len(it)] for it in columns]).encode("ascii") + b"\n"
-    for it in columns:
-        step = BYTES_AT_ONCE // it.itemsize
-        for at in range(0, len(it), step):
-            yield _least_first(it[at:at + step]).tobytes()
-
-
-def unpacked(data: bytes) -> "List[array[int]]":
-    """The columns of such bytes. Raises `ValueError` where they aren't whole."""
-    end = data.index(b"\n")
-    found, at = [], end + 1
-    for code, count in json.loads(data[:end]):
-        column, size = array(code), WIDTHS[code] * count
-        column.frombytes(data[at:at + size])
-        found.append(_least_first(column))
-        at += size
-    if at != len(data):
-        raise ValueError("an answer's columns aren't whole")
-    return found
-
-
-def _least_first(column: "array[int]") -> "array[int]":
-    if sys.byteorder == "big":
-        column.byteswap()
-    return column
 
 
 def loaded(data: bytes) -> Any:
