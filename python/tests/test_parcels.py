@@ -1,6 +1,5 @@
 """What a feed's reading says by small parts: pipes, parcels, steps, and how far it is on a terminal."""
 import contextlib
-import gc
 import io
 import os
 import struct
@@ -13,7 +12,7 @@ from unittest import mock
 from support import Case
 
 from misteluk.feeds import pipes
-from misteluk.feeds.progress import Progress, no_collection
+from misteluk.feeds.progress import Progress
 from misteluk.feeds.rejects import Rejected
 from misteluk.feeds.spans import ahead_time, shown_length
 from misteluk.feeds.steps import FeedMark, FeedPlace, Followed
@@ -214,15 +213,6 @@ class Shown(unittest.TestCase):
         self.assertEqual(tqdm.tqdm.call_args, mock.call(desc="reading f", total=10, unit=" rows", file=err))
         self.assertEqual(tqdm.tqdm().mock_calls, [mock.call.update(2), mock.call.update(3), mock.call.clear(), mock.call.close()])
         self.assertEqual(err.getvalue(), "")
-
-    def test_the_collector_rests(self):
-        for was_on in (True, False):
-            (gc.enable if was_on else gc.disable)()
-            self.addCleanup(gc.enable)
-            with contextlib.suppress(KeyError), no_collection():
-                self.assertFalse(gc.isenabled())
-                raise KeyError
-            self.assertEqual(gc.isenabled(), was_on)
 
 
 if __name__ == "__main__":

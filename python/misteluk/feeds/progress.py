@@ -1,11 +1,9 @@
-"""What is told on a terminal while a feed is read and loaded, and what rests meanwhile."""
+"""What is told on a terminal while a feed is read and loaded."""
 from __future__ import annotations
 
-import gc
 import sys
 import time
-from contextlib import contextmanager
-from typing import Any, Iterator, Optional
+from typing import Any, Optional
 
 # From how many on it is told of edges.
 MANY = 20_000
@@ -49,16 +47,3 @@ class Progress:
         elif self.shown:
             print("\r\033[K", end="", file=sys.stderr, flush=True)
         self.bar, self.shown = None, False
-
-
-@contextmanager
-def no_collection() -> Iterator[None]:
-    """Python's collector of cycles rests meanwhile. Rows make none, and it would look through them again and again: a third of
-    the time that counting takes."""
-    was_on = gc.isenabled()
-    gc.disable()
-    try:
-        yield
-    finally:
-        if was_on:
-            gc.enable()

@@ -12,7 +12,7 @@ from .advice import advise, as_written
 from .feed import ROWS_AT_ONCE, Block, Path, came_of, part_of, rows_of, turned
 from .opening import ReadAs, reads
 from .parts import Counted, Part, Parts, counted
-from .progress import Progress, no_collection
+from .progress import Progress
 from .rejects import Bin, Rejected, Rejects, rejected
 from .spans import shown_length
 from .terms import Terms
@@ -334,13 +334,12 @@ def surveyed(data: Any, how: ReadAs, terms: Terms, by: str, batch: Optional[int]
     counter, told = Count(feed.name, by, size, terms, how.decimal), Progress(f"reading {feed.name}", None, progress)
     kept = None if rejects is None else Rejects(rejects, how.encoding, data)
     counter.bin = None if kept is None else Bin()
-    with no_collection():
-        for block in feed.blocks():
-            try:
-                counter.take(block)
-            finally:
-                counter.write_wrong(kept)
-            told.step(len(block.lines))
+    for block in feed.blocks():
+        try:
+            counter.take(block)
+        finally:
+            counter.write_wrong(kept)
+        told.step(len(block.lines))
     told.end()
     advise(counter.faults, how.reading(data, terms.units))
     return counter.survey(joins=batch is None)

@@ -84,7 +84,7 @@ def _of(address: str, fault: OSError) -> OSError:
 def _bound_unix(path: str) -> socket.socket:
     """A Unix socket that its owner alone may use. One that a server left takes no place."""
     found = socket.socket(socket.AF_UNIX, socket.SOCK_STREAM)
-    before = os.umask(0o177)  # (the socket has its mode from the first)
+    os.fchmod(found.fileno(), 0o600)  # (from which Linux makes the file's mode, so that it has it from the first)
     try:
         try:
             found.bind(path)
@@ -97,8 +97,6 @@ def _bound_unix(path: str) -> socket.socket:
     except OSError as fault:
         found.close()
         raise _of(path, fault) from None
-    finally:
-        os.umask(before)
     return found
 
 
