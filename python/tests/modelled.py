@@ -54,7 +54,7 @@ class Model:
     def run(self, interrupts):
         calls = [self.operate] * 4 + [self.commit] * 3 + [self.open, self.close, self.ask, self.ask, self.table, self.count]
         calls += [self.load, self.told_late, self.rebase, self.save, self.commit_more]
-        calls += [self.renew, self.collect, self.end_store, *self.others()]
+        calls += [self.renew, self.collect, self.end_store, self.walk, self.compare, *self.others()]
         with warnings.catch_warnings():
             warnings.simplefilter("ignore", ResourceWarning)  # (Python closes what an interrupted `open` gave nobody)
             while self.interrupts < interrupts:
@@ -214,9 +214,7 @@ class Model:
         """There is a seat, as long as the held sessions don't take all."""
         if len(self.held) < 3:
             self.commit()
-            session, interrupted = self.call(self.store.open, "open")
-            if not interrupted:
-                self.held.append((session, dict(self.edges)))
+            self.held.append((self.asked(self.store.open, "open"), dict(self.edges)))
 
     def close(self):
         if self.held:
@@ -224,25 +222,54 @@ class Model:
             self.call(session.close, "end of a session")
             session.close()
 
+    def asked(self, what, name):
+        """What a question gives, which is asked again where it is interrupted."""
+        found, interrupted = self.call(what, name)
+        return what() if interrupted else found
+
     def ask(self):
         if self.held:
             session, known = self.random.choice(self.held)
             edges = self.random.sample(sorted(known), min(3, len(known)))
-            found, interrupted = self.call(lambda: session.get_edges(edges), "edges")
-            assert interrupted or found == [known[it] for it in edges], (found, known)
+            found = self.asked(lambda: session.get_edges(edges), "edges")
+            assert found == [known[it] for it in edges], (found, known)
             for it in edges[:1]:
-                found, interrupted = self.call(lambda: session.edge(*it), "edge")
-                assert interrupted or found == known[it], (found, known)
-                found, interrupted = self.call(lambda: session.successors(it[1]), "out_of")
-                assert interrupted or found == {edge[2]: marks for edge, marks in known.items() if edge[1] == it[1]}, found
+                found = self.asked(lambda: session.edge(*it), "edge")
+                assert found == known[it], (found, known)
+                found = self.asked(lambda: session.successors(it[1]), "out_of")
+                assert found == {edge[2]: marks for edge, marks in known.items() if edge[1] == it[1]}, found
 
     def table(self):
         if self.held:
             session, known = self.random.choice(self.held)
-            found, interrupted = self.call(session.degrees, "degrees")
-            assert interrupted or sum(it.weight_out for it in found.values()) == sum(it[0] for it in known.values())
-            found, interrupted = self.call(session.components, "components")
-            assert interrupted or {it for edge in known for it in edge[1:]} <= set(found)
+            found = self.asked(session.degrees, "degrees")
+            assert sum(it.weight_out for it in found.values()) == sum(it[0] for it in known.values())
+            found = self.asked(session.components, "components")
+            assert {it for edge in known for it in edge[1:]} <= set(found)
+
+    def walk(self):
+        """From a source one step leads to its targets, from which none leads on."""
+        if self.held:
+            session, known = self.random.choice(self.held)
+            for _, source, target in self.random.sample(sorted(known), min(1, len(known))):
+                targets = {it[2] for it in known if it[1] == source}
+                found = self.asked(lambda: session.neighborhood(source, 2), "neighborhood")
+                assert found == {source: 0, **dict.fromkeys(targets, 1)}, (found, known)
+                found = self.asked(lambda: session.path(source, target), "path")
+                assert found == [source, target], found
+                found = self.asked(lambda: session.in_edges(target), "edges in")
+                assert {it[:3]: it[3] for it in found} == {it: marks for it, marks in known.items() if it[2] == target}, found
+
+    def compare(self):
+        """All edges of a session, and what another one has that it hasn't."""
+        if self.held:
+            (session, known), (later, others) = self.random.choice(self.held), self.random.choice(self.held)
+            found = self.asked(session.edges, "all edges")
+            assert {it[:3]: it[3] for it in found} == known, (found, known)
+            changed = {it for it in known.keys() & others.keys() if known[it] != others[it]}
+            found = self.asked(lambda: session.diff(later), "diff")
+            assert found.counts() == {"gone": len(known.keys() - others.keys()), "new": len(others.keys() - known.keys()),
+                                      "changed": len(changed)}, (found, known, others)
 
     def count(self):
         stat, interrupted = self.call(self.store.stat, "stat")

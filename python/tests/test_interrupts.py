@@ -9,18 +9,28 @@ import multiprocessing
 import os
 import signal
 import unittest
+import warnings
 import weakref
 from unittest import mock
 
-from interrupting import CALLS, KNOWN, Scene, after, elsewhere, handler, interrupt_in_a_call, places
+from asking import NO_ANSWERS, ROWS, calls, plain
+from interrupting import CALLS, EDGES, KNOWN, Scene, after, elsewhere, handler, interrupt_in_a_call, places
 from modelled import Model
 from support import Case
 
 import misteluk
-from misteluk import ledger, store
-from misteluk.engine import library
+from misteluk import Store, ledger, store
+from misteluk.engine import held, library
+from misteluk.engine.calling import room
+from misteluk.engine.protocol import Arrays
 
 ALL = {"MISTELUK_INTERRUPTS": "all"}
+# What of a store is interrupted by other tests, which are of loads, of feeds and of stores with a file; and what asks it for
+# nothing.
+ELSEWHERE = {"load", "load_in_steps", "follow", "file", "at"}
+OF_A_STORE = {**dict.fromkeys(("insert", "add", "remove", "expire", "discard"), "operations"), "compact": "rebase",
+              "close": "end", **{it: it for it in ("commit", "open", "stat", "collect", "restore")}}
+NO_CALLS = {"blocks", "pending", "kinds", "units", "is_closed"}
 
 
 class Interrupts(Case):
@@ -78,6 +88,31 @@ class Interrupts(Case):
             self.assertGreater(count, 5)
             self.assertEqual(wrong, [])
 
+    def test_a_version_that_is_saved_and_restored(self):
+        """The file has the version, whole, or isn't there; each is made again, and nothing is left open."""
+        path, descriptors = self.room / "saved.csv", set(os.listdir("/proc/self/fd"))
+
+        def restored(scene):
+            with Store.restore(path) as other, other.open() as session:
+                assert session.get_edges(list(EDGES)) == list(EDGES.values())
+
+        def saved(scene):
+            for _ in range(2):
+                if path.exists():
+                    restored(scene)
+                    path.unlink()
+                scene.session.save(path)
+            assert os.listdir(self.room) == [path.name], os.listdir(self.room)
+            scene.is_right()
+        with warnings.catch_warnings(), mock.patch("sys.unraisablehook"):
+            warnings.simplefilter("ignore", ResourceWarning)  # (Python closes late what an interrupt comes amid)
+            for call, right in ((lambda it: it.session.save(path), saved), (lambda it: Store.restore(path), restored)):
+                count, wrong = places(Scene, call, right)
+                self.assertGreater(count, 100)
+                self.assertEqual(wrong, [])
+                gc.collect()
+        self.assertEqual(set(os.listdir("/proc/self/fd")), descriptors)
+
     def test_a_fork_leaves_the_store_alone(self):
         store = self.store("insert l a b 5 1")
         session = store.open()
@@ -131,6 +166,80 @@ class Interrupts(Case):
                     self.assertEqual(session.edge("l", "a", "b"), (5, 1, 1))
         interrupts = "a signal's handler can't call a store while it interrupts another call of it"
         self.assertLessEqual(set(told), {"1 edges", interrupts})
+
+
+class Asked:
+    """A store with rows and a session of them, which is asked something."""
+
+    def __init__(self, call, given, wanted):
+        self.call, self.given, self.wanted = call, given, wanted
+        self.store = Store(blocks=64, seats=2)
+        for word, *ends, weight, time in map(str.split, ROWS):
+            getattr(self.store, word)(*ends, int(weight), int(time))
+        self.store.commit()
+        self.session = self.store.open()
+
+    def ask(self):
+        return self.call(self.session, *self.given)
+
+    def is_right(self):
+        """Whether the session answers the same as one that nobody interrupted, and so does one that is opened now; and whether
+        each has its seat."""
+        with self.store.open() as later:
+            for it in (self.session, later):
+                found = plain(self.call(it, *self.given)), plain(it.edges()), plain(it.degrees())
+                assert found == self.wanted, found
+        self.session.close()
+        for it in [self.store.open() for _ in range(2)]:
+            it.close()
+
+    def end(self):
+        self.store._kill()
+
+
+class Questions(Case):
+    """Each call of a session that answers, interrupted: neither that session nor a later one answers anything else."""
+
+    def places(self, name):
+        (call, given), = ((call, given) for it, call, given in calls(str(self.room / "edges.csv")) if it == name)
+        scene = Asked(call, given, None)
+        wanted = plain(scene.ask()), plain(scene.session.edges()), plain(scene.session.degrees())
+        scene.end()
+        return places(lambda: Asked(call, given, wanted), Asked.ask, Asked.is_right, 5)
+
+    def test_each(self):
+        for name, *_ in calls(""):
+            with self.subTest(name):
+                count, wrong = self.places(name)
+                self.assertGreater(count, 3)
+                self.assertEqual(wrong, [])
+
+    def test_a_fault_is_found(self):
+        """Two to plant: a table is kept before it is filled, and edges are before they are read."""
+        def early(self, call, codes, scope, *given):
+            found = self.kept.answers.get((call, scope, given))
+            if found is None:
+                found = [room(it, self.count) for it in codes]
+                self.kept.answers.put((call, scope, given), found)
+                found[:] = self._new_table(getattr(self._library, f"version_{call}"), codes, self._view(scope), *given)
+            return found
+
+        def empty(self, scope):
+            if self.kept.all is None:
+                self.kept.all = Arrays.none()
+                self.kept.all = self._read(self._view(scope))
+            return self.kept.all
+        for name, of, planted in (("cores", "_table", early), ("levels", "_table", early), ("edges", "edges", empty)):
+            with self.subTest(name), mock.patch.object(held.LibraryVersion, of, planted), mock.patch.dict(os.environ, ALL):
+                self.assertGreater(len(self.places(name)[1]), 0)
+
+    def test_each_call_is_interrupted(self):
+        """No call of a store or a session is left out, here or in the tests that are named."""
+        of_session = {it for it in dir(self.store(*ROWS).open()) if not it.startswith("_")} - NO_ANSWERS
+        self.assertEqual(of_session - {it for it, *_ in calls("")}, set())
+        of_store = {it for it in dir(Store) if not it.startswith("_")} - NO_CALLS - ELSEWHERE
+        self.assertEqual(of_store, set(OF_A_STORE))
+        self.assertEqual({it for it in OF_A_STORE.values() if it not in CALLS}, {"operations", "restore"})
 
 
 if __name__ == "__main__":

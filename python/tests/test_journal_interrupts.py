@@ -1,5 +1,6 @@
 """An interrupt at each place of a commit to a file: each batch is in once, in the store and in the file, and told once."""
 import gc
+import itertools
 import unittest
 import warnings
 
@@ -98,29 +99,49 @@ class Interrupts(Case):
             model.run(150)
         self.assertGreater(model.steps, 50)
 
-    def is_interrupted(self, at, path):
-        """Opens the file and interrupts that at a line; whether there is such a line. What is left then Python closes late."""
+    def is_interrupted(self, at, opening):
+        """Opens a store and interrupts that at a line; whether there is such a line. What is left then Python closes late."""
         stores = []
         with warnings.catch_warnings():
             warnings.simplefilter("ignore", ResourceWarning)
-            found = at_line(at, lambda: stores.append(Store(path, sync="off")))
+            found = at_line(at, lambda: stores.append(opening()))
             for it in stores:
                 it.close()
             del stores
             gc.collect()
         return found
 
+    def lines(self, opening, is_right):
+        """How many lines an opening has; it is interrupted at some of them, and then all must be right."""
+        at = 1
+        while self.is_interrupted(at, opening):
+            is_right()
+            at += 23
+        is_right()
+        return at
+
     def test_an_opening(self):
         """The next one finds the file, and no lock that the interrupted one had."""
-        scene, at, is_more = Scene(self.room), 1, True
+        scene = Scene(self.room)
         scene.commit()
         scene.store.close()
-        while is_more:
-            is_more = self.is_interrupted(at, scene.path)
+
+        def is_right():
             with Store(scene.path, sync="off") as store:
                 self.assertEqual(store.stat().version, 2)
-            at += 23
-        self.assertGreater(at, 200)
+        self.assertGreater(self.lines(lambda: Store(scene.path, sync="off"), is_right), 200)
+
+    def test_an_opening_at_a_version(self):
+        """It is there at the next call, and the store that has the file goes on."""
+        scene, count = Scene(self.room), itertools.count(2)
+        self.addCleanup(scene.end)
+
+        def is_right():
+            with Store.at(scene.path, version=1) as then, then.open() as session:
+                self.assertEqual(session.edge("k", "a", "b"), (5, 1, 1))
+            scene.store.add("k", "a", "c", 1, 1)
+            self.assertEqual(scene.store.commit().version, next(count))
+        self.assertGreater(self.lines(lambda: Store.at(scene.path, version=1), is_right), 200)
 
 
 if __name__ == "__main__":
