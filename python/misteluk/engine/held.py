@@ -130,6 +130,10 @@ class LibraryVersion(Walked):
     def close(self) -> None:
         self._engine.release(self)
 
+    def leave_handle(self) -> None:
+        """Lets its first handle go. Those who share its hold, and the handles that nobody asks by now, answer on."""
+        self._first = Owned(interface.Version(), self._versions)
+
     def leave_seat(self) -> None:
         """Lets the hold go. It answers on, and its blocks aren't the desk's any more."""
         self._holds.let_go(self._hold)
@@ -139,7 +143,7 @@ class LibraryVersion(Walked):
         """Lets the hold go, and the handles that nobody asks by now; the others go with those who do so."""
         self._is_open = False
         self.leave_seat()
-        self._first = Owned(interface.Version(), self._versions)
+        self.leave_handle()
         self.kept, self.told = Kept(), {}  # (last: who finds no handle there finds no first one either)
 
     # How it is asked.

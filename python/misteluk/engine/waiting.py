@@ -17,17 +17,18 @@ from ..values.answers import Commit, Stat
 
 class Ready(NamedTuple):
     """A batch that is ready, the opening that has it and takes the place of the one in use, and the last version, as it is told
-    meanwhile."""
+    meanwhile; and by which call of the desk it is accepted or given up, once that is decided."""
 
     flight: LibraryFlight
     opening: Opening
     before: LibraryVersion
     stat: Stat
+    decided: Optional[Callable[[Any], int]] = None
 
 
 class WaitingEngine(LibraryEngine):
-    """An engine with the two phases of its desk. An interrupt may come between any two steps of them: `finish` and `cancel` find
-    what was done by then, and do the rest."""
+    """An engine with the two phases of its desk. An interrupt may come between any two steps of them: what was decided is done by
+    the next call, whichever that is, and `finish` and `cancel` find what was done by then."""
 
     _ready: Optional[Ready] = None
 
@@ -52,10 +53,16 @@ class WaitingEngine(LibraryEngine):
         self._decide(self.library.desk_cancel)
 
     def _decide(self, call: Callable[[Any], int]) -> None:
-        ready = self._ready
-        if ready is None:
-            return
+        if self._ready is not None:
+            self._ready = self._ready._replace(decided=call)
+            self._do(self._ready, call)
+
+    def _do(self, ready: Ready, call: Callable[[Any], int]) -> None:
+        """Does what was decided. The version of before is only its sessions' then: where it has none the desk makes the next one
+        in its table."""
         flight, opening = ready.flight, ready.opening
+        ready.before.leave_handle()
+        self.handles.give_back(self.library)
         call(opening.desk.raw)  # (it is refused where an interrupt came after it, or before the batch was ready)
         number = self._stat(opening).version
         if number > opening.number:
@@ -66,11 +73,14 @@ class WaitingEngine(LibraryEngine):
     # How the engine does it.
 
     def _settle(self) -> Opening:
-        if self._ready is None:
-            return super()._settle()
-        if self.is_closed:
+        ready = self._ready
+        if ready is not None and self.is_closed:
             raise StoreError("the store is closed")
-        return self._opening
+        if ready is not None and ready.decided is None:
+            return self._opening
+        if ready is not None and ready.decided is not None:
+            self._do(ready, ready.decided)
+        return super()._settle()
 
     def _applied(self, opening: Opening, flight: LibraryFlight) -> int:
         if not flight.waits:
