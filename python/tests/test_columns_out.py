@@ -12,7 +12,8 @@ from unittest import mock
 from support import Case, optional
 
 import misteluk
-from misteluk.engine import copies, room, scripts
+from misteluk.engine import copies, operations, room, scripts
+from misteluk.engine.library import LibraryEngine
 from misteluk.engine.operations import INSERT, REMOVE, Numbered, records_of
 from misteluk.engine.protocol import Arrays
 from misteluk.values import diff, edges
@@ -30,7 +31,7 @@ UNITS = (Units(), Units(weight_scale=100), Units(weight_scale=8, times="iso"),
 def way(is_fast):
     """Has each module go by columns of numpy, or by loops, however few edges there are."""
     with ExitStack() as stack:
-        for it in (copies, room, scripts, edges, diff):
+        for it in (copies, operations, room, scripts, edges, diff):
             stack.enter_context(mock.patch.object(it, "numpy_for", lambda count, *_: numpy if is_fast and count else None))
         yield
 
@@ -82,6 +83,28 @@ class Copies(Case):
                 self.assertEqual(*behind)
                 count += REMOVE in plain.codes
         self.assertGreater(count, 40)  # (there were loops)
+
+    @HAVE_NUMPY
+    def test_openings(self):
+        """Insertions and removals apart are the same by loops and by columns, and a desk that begins with them has it all."""
+        made, engine, count = random.Random(4), LibraryEngine(None, 2, False), 0
+        self.addCleanup(engine.close)
+        for names, kinds in itertools.product((1, 2, 3, 8, 15), (1, 2, 3)):
+            for _ in range(8):
+                content = some_content(made, names, kinds)
+                plain, fast = both(lambda content=content: [it[:6] for it in copies.opening_of(content)])
+                self.assertEqual(fast, plain)
+                self.assertEqual([it.typecode for it in fast[0]], list("BIIIqQ"))
+                count += any(it[1:3] == (0, 0) for it in zip(*content.edges)) and kinds > 1
+                for is_fast in (False, True):
+                    with way(is_fast):
+                        engine.begin_with(content, 3)
+                    held = engine.hold(None)
+                    found = copies.content_of(held)
+                    held.close()
+                    self.assertEqual(found._replace(edges=sorted(zip(*found.edges))),
+                                     content._replace(edges=sorted(zip(*content.edges))))
+        self.assertGreater(count, 20)  # (loops of the first name that are edges, beside other kinds)
 
     @HAVE_NUMPY
     def test_room_of_any_operations(self):

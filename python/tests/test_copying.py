@@ -2,6 +2,7 @@
 import itertools
 import random
 import unittest
+from array import array
 from unittest import mock
 
 from support import Case
@@ -9,6 +10,7 @@ from support import Case
 import misteluk
 from misteluk.engine import copies as copying
 from misteluk.engine.copies import content_of, operations_of
+from misteluk.engine.library import LibraryEngine
 from misteluk.engine.operations import INSERT, Operations
 from misteluk.engine.protocol import Arrays
 
@@ -83,6 +85,46 @@ class Copies(Case):
         for name, fault in (("_put", recent_alone), ("_items", out_of_order), ("_put_loop", lambda *_: None)):
             with self.subTest(name), mock.patch.object(copying, name, fault):
                 self.assertGreater(sum(map(self.differ, range(4))), 0)
+
+    def opened_with(self, content, blocks):
+        """What an engine of so many blocks has that begins with a content as version 7; and whether insertions had batches."""
+        engine = LibraryEngine(blocks, 2, False)
+        self.addCleanup(engine.close)
+        with mock.patch.object(LibraryEngine, "_apply_all", autospec=True, side_effect=LibraryEngine._apply_all) as applied:
+            engine.begin_with(content, 7)
+        held = engine.hold(None)
+        found, stat = content_of(held), engine.stat()
+        self.assertEqual((held.number, stat.version, stat.retired), (7, 7, 0))
+        self.assertEqual(stat.used, len({(kind, source) for kind, source in zip(*content.edges[:2])}))  # (no row has 33 edges)
+        return ((found.kinds, found.names, sorted(zip(*found.edges))),
+                any(it.args[2].has(INSERT) for it in applied.call_args_list))
+
+    def test_a_desk_that_begins_with_a_content(self):
+        """Whatever its blocks, it has kinds, names and times as they were. Few blocks take a loop at a time, and many all."""
+        ways = []
+        for seed in range(20):
+            for it in self.grown(seed)[0]:
+                content = content_of(it._held)
+                wanted = content.kinds, content.names, sorted(zip(*content.edges))
+                rows = len({*zip(*content.edges[:2])})
+                for blocks in (None, 2_048, max(rows + 1, 16)):
+                    found, had_batches = self.opened_with(content, blocks)
+                    self.assertEqual(found, wanted, (seed, blocks))
+                    ways.append((blocks, had_batches))
+        self.assertEqual({it for it in ways if it[0] in (None, 2_048)}, {(None, False), (2_048, False)})
+        self.assertIn(True, {had_batches for _, had_batches in ways})
+
+    def test_loops_that_are_edges(self):
+        """A kind's first edge may be the loop that has it known, and is none that is removed."""
+        edges = [(1, 0, 0, 5, 3, 9), (0, 1, 0, 2, 1, 1), (2, 1, 1, 4, 4, 4)]
+        content = copying.Content(["k0", "k1", "k2", "k3"], ["a", "b", "c"], Arrays(*map(array, "IIIqQQ", zip(*edges))))
+        insertions, removals = copying.opening_of(content)
+        self.assertEqual(insertions.rows()[:4], [(INSERT, "k0", "a", "a", 0, 0), (INSERT, "k1", "a", "a", 5, 3),
+                                                 (INSERT, "k2", "a", "a", 0, 0), (INSERT, "k3", "a", "a", 0, 0)])
+        self.assertEqual([it[1:4] for it in removals.rows()], [("k0", "a", "a"), ("k2", "a", "a"), ("k3", "a", "a"),
+                                                               ("k0", "c", "c")])
+        found, _ = self.opened_with(content, None)
+        self.assertEqual(found, (content.kinds, content.names, sorted(edges)))
 
     def test_names_without_edges_fall_away(self):
         store = self.store("insert road a b 1 1", "insert rail c d 2 2", "insert road d b 3 3", "remove rail c d")

@@ -1,4 +1,5 @@
 """What a store's file does apart from SQLite, in rows: who sent what, when a compaction is due, how batches are written."""
+import contextlib
 import datetime
 import unittest
 from unittest import mock
@@ -8,10 +9,9 @@ from support import Case
 from misteluk import Limits
 from misteluk.engine.interface import Code
 from misteluk.engine.operations import Operations, Post
-from misteluk.engine.protocol import Arrays
-from misteluk.errors import JournalFault, NoMemory, SequenceTaken
+from misteluk.errors import JournalFault, NoMemory, SequenceTaken, StoreError
 from misteluk.feeds.steps import FeedMark, FeedPlace
-from misteluk.journal import bases, beside, scripts
+from misteluk.journal import beside, scripts
 from misteluk.journal.beside import Beside
 from misteluk.journal.opening import make_engine
 from misteluk.journal.passing import Passing
@@ -167,25 +167,93 @@ class Writers(unittest.TestCase):
         """Each operation, alone and with others, and names that want quotes."""
         insert, add, quoted = (0, "k", "a", "b", -5, 7), (1, "k", "a", "c", 2, 8), (0, "k", 'a"', "b", 1, 1)
         remove, expire = (2, "k", "a", "b", 0, 0), (3, "", "", "", 0, 9)
-        for rows, text, is_at_once in (
-                ([insert], b"i,k,a,b,-5,7\n", True), ([add], b"a,k,a,c,2,8\n", True), ([remove], b"r,k,a,b\n", False),
-                ([expire], b"x,9\n", False), ([insert, add], b"i,k,a,b,-5,7\na,k,a,c,2,8\n", True),
-                ([remove, expire], b"r,k,a,b\nx,9\n", False), ([quoted, add], b'i,k,"a""",b,1,1\na,k,a,c,2,8\n', False),
-                ([insert, expire, remove, add], b"i,k,a,b,-5,7\nx,9\nr,k,a,b\na,k,a,c,2,8\n", False)):
+        like, comma = (0, "r", "x", "i", 3, 4), (1, "x", "r,", "x,", 3, 4)
+        tried = [([], b""), ([insert], b"i,k,a,b,-5,7\n"), ([add], b"a,k,a,c,2,8\n"), ([remove], b"r,k,a,b\n"),
+                 ([expire], b"x,9\n"), ([like], b"i,r,x,i,3,4\n"), ([comma], b'a,x,"r,","x,",3,4\n'),
+                 ([insert, add], b"i,k,a,b,-5,7\na,k,a,c,2,8\n"), ([remove, expire], b"r,k,a,b\nx,9\n"),
+                 ([quoted, add], b'i,k,"a""",b,1,1\na,k,a,c,2,8\n'), ([quoted, remove], b'i,k,"a""",b,1,1\nr,k,a,b\n'),
+                 ([insert, expire, remove, add], b"i,k,a,b,-5,7\nx,9\nr,k,a,b\na,k,a,c,2,8\n"),
+                 ([remove, like, expire], b"r,k,a,b\ni,r,x,i,3,4\nx,9\n")]
+        for rows, text in tried:
             self.assertEqual(self.records_of(rows), text)
-            found = scripts.operations_of(text)
-            self.assertEqual(([tuple(it) for it in found.rows], found._rows is None), (rows, is_at_once))
+            self.assertEqual(scripts.operations_of([text]).rows, rows)
+        every = [row for rows, _ in tried for row in rows]
+        self.assertEqual(scripts.operations_of([text for _, text in tried]).rows, every)
+        self.assertRaisesRegex(ValueError, "no records", scripts.operations_of, [b"i,k,a,b,1\n"])
 
 
-class Bases(unittest.TestCase):
-    def test_how_much_room_they_have(self):
-        """That of the edges, or one block for each two names and for each kind, where this is more; and that of a batch."""
-        for kinds, names, degrees, blocks in ((2, 2, {(0, 0): 33, (1, 0): 32, (0, 1): 1}, 4), (2, 10, {(0, 0): 1}, 7),
-                                              (2, 11, {}, 7), (1, 3, {(0, 0): 65}, 3)):
-            ends = [it for it, count in degrees.items() for _ in range(count)]
-            edges = Arrays.of(len(ends))._replace(kinds=[kind for kind, _ in ends], sources=[source for _, source in ends])
-            base = bases.Base([""] * kinds, [""] * names, edges, {}, Sources())
-            self.assertEqual(bases._room(base), blocks + 65_536)
+class Phases(Case):
+    """What an engine does in two phases, where an interrupt comes between any two steps of them."""
+
+    def setUp(self):
+        super().setUp()
+        self.engine = make_engine(Limits(), None, 4, False)
+        self.addCleanup(self.engine.close)
+        self.ready(1)
+        self.engine.finish(self.flight)
+
+    def ready(self, weight):
+        self.flight = self.engine.flight(Operations([(0, "k", "a", "b", weight, weight)]), True)
+        self.engine.begin(self.flight)
+
+    def last(self):
+        """The last version that anybody may hold, its edge's weight, and what the engine says of it."""
+        with contextlib.closing(self.engine.hold(None)) as held:
+            return held.number, held.edge(("k", "a", "b"))[0], self.engine.stat().version
+
+    def test_what_was_decided_is_done(self):
+        """By the next call, whichever that is. Before it is decided nobody has the batch."""
+        for name, weight in (("desk_finish", 2), ("desk_cancel", 1)):
+            for is_made in (False, True):
+                self.setUp()
+                self.ready(2)
+                self.assertEqual(self.last(), (1, 1, 1))
+                with mock.patch.object(self.engine.library, name, self.interrupting(name, is_made)), \
+                        self.assertRaises(KeyboardInterrupt):
+                    self.engine.finish(self.flight) if weight == 2 else self.engine.cancel()
+                self.assertEqual(self.last(), (weight, weight, weight), (name, is_made))
+                self.assertEqual(self.engine.landed(self.flight), Commit(2, 0, 1, 0, 0, 0) if weight == 2 else None)
+                self.engine.cancel()
+                self.ready(weight + 1)
+                self.assertEqual(self.engine.finish(self.flight).version, weight + 1)
+                self.assertEqual(self.last(), (weight + 1,) * 3)
+
+    def interrupting(self, name, is_made):
+        """A call of the library that is interrupted once, before it is made or behind it."""
+        real, left = getattr(self.engine.library, name), [None]
+
+        def call(*given):
+            code = real(*given) if is_made or not left else None
+            if left:
+                left.clear()
+                raise KeyboardInterrupt
+            return code
+        return call
+
+    def test_the_version_of_before_is_let_go(self):
+        """Before the batch is accepted, so that the desk makes the next version in its table; what sessions hold of it stays."""
+        library, calls = self.engine.library, []
+        for is_shared in (False, True):
+            self.ready(2)
+            held = self.engine.hold(None) if is_shared else None
+            with mock.patch.multiple(library, version_free=self.noting(calls, "version_free"),
+                                     desk_finish=self.noting(calls, "desk_finish")):
+                self.engine.finish(self.flight)
+            self.assertEqual(calls, ["version_free", "desk_finish"])
+            calls.clear()
+        self.assertEqual((held.edge(("k", "a", "b")), held.number, self.last()), ((2, 1, 2), 2, (3, 2, 3)))
+        held.close()
+
+    def noting(self, calls, name):
+        """A call of the library of which it is noted where its handle has something."""
+        real = getattr(self.engine.library, name)
+        return lambda handle, *given: (calls.append(name) if handle.at else None, real(handle, *given))[1]
+
+    def test_a_closed_one_decides_nothing(self):
+        self.ready(2)
+        self.engine.close()
+        for call in (self.engine.stat, lambda: self.engine.hold(None)):
+            self.assertRaisesRegex(StoreError, "the store is closed", call)
 
 
 class Engines(unittest.TestCase):

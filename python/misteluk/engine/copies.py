@@ -7,11 +7,15 @@ order gets a loop edge, which is inserted and removed.
 from __future__ import annotations
 
 from array import array
-from typing import Any, Iterator, List, NamedTuple
+from typing import Any, Iterator, List, NamedTuple, Tuple
 
 from .operations import INSERT, REMOVE, Dictionary, Numbered
 from .protocol import WHOLE, Arrays, Held
 from ..values.fields import numpy_for
+
+# Which operations are no removals, by their numbers, and which are.
+_ARE_KEPT = bytes(it != REMOVE for it in range(256))
+_ARE_REMOVED = bytes(it == REMOVE for it in range(256))
 
 
 class Content(NamedTuple):
@@ -50,6 +54,29 @@ def operations_of(content: Content) -> Numbered:
     else:
         _put_at_once(numpy, found, content.edges, _items_at_once(numpy, content, is_begun))
     return found
+
+
+def opening_of(content: Content) -> Tuple[Numbered, Numbered]:
+    """The insertions that make an empty store hold the content, with loop edges that only have a name or a kind known in its
+    order; and behind all of them the removals of these loops. (One that is an edge of the content is inserted as that.)"""
+    found = operations_of(content)
+    codes = found.codes.tobytes()
+    insertions, removals = found.only(codes.translate(_ARE_KEPT)), found.only(codes.translate(_ARE_REMOVED))
+    own = _loops_of_first(content.edges) if removals.codes else {}
+    for kind, at in own.items():  # (of each kind the first insertion is the loop of the first name, if there are two kinds)
+        insertions.weights[kind], insertions.times[kind] = content.edges.weights[at], content.edges.firsts[at]
+    are_loops = zip(removals.sources, removals.targets, removals.kinds)
+    return insertions, removals.only(bytes(bool(source or target) or kind not in own for source, target, kind in are_loops))
+
+
+def _loops_of_first(edges: Arrays) -> "dict[int, int]":
+    """The places of edges from the first name to itself, by their kinds."""
+    numpy = numpy_for(edges.size)
+    if numpy is None:
+        places = [at for at, ends in enumerate(zip(edges.sources, edges.targets)) if ends == (0, 0)]
+    else:
+        places = numpy.flatnonzero(numpy.asarray(edges.sources) | numpy.asarray(edges.targets) == 0).tolist()
+    return {edges.kinds[it]: it for it in places}
 
 
 def _no_operations(content: Content) -> Numbered:

@@ -8,34 +8,32 @@ the end of the process nothing is freed, and in a fork nothing at all.
 """
 from __future__ import annotations
 
-import itertools
 import os
 import time
 import weakref
-from ctypes import c_uint64, sizeof
+from ctypes import c_uint64
 from typing import Any, Dict, List, Optional, Sequence
 
 from . import interface
-from .calling import MOST_AT_ONCE, WORDS, Known, LibraryFlight, check, columns_of, fill, opened, refusal_of
-from .copies import Content, content_of, operations_of
+from .calling import WORDS, LibraryFlight, check, columns_of, opened, refusal_of
+from .copies import Content, content_of
+from .desks import Desks
 from .finding import find_library
-from .guard import Guard, Notes, Owned, alone
+from .guard import Guard, Owned, alone
 from .held import LibraryVersion, Opening
 from .interface import Code
-from .operations import REMOVE, Operations
+from .operations import Operations
 from .protocol import LIBRARY, NO_FEEDS, Denied
 from ..errors import NoSeat, SessionClosed, StoreError
 from ..values.answers import Collected, Commit, Compacted, Stat
 from ..values import records
-from ..values.limits import MOST_BATCHES, MOST_BLOCKS, MOST_KINDS, MOST_WEIGHT, Limits, within
+from ..values.limits import MOST_BATCHES, MOST_BLOCKS, MOST_KINDS, Limits, within
 
 # How many blocks a desk has at first, and how many times as many one that has room for more.
 FIRST_BLOCKS, MORE_BLOCKS = 65_536, 4
-# The numbers of desks: each of the process has its own.
-_NUMBERS = itertools.count(1)
 
 
-class LibraryEngine:
+class LibraryEngine(Desks):
     """A desk in this process. It begins anew by itself where it is full: of batches, or of blocks that held versions need.
     Versions that are held stay as they are. Where nothing says how many blocks, vertices or kinds there are at most, a larger
     desk with the same edges takes its place once they are needed. `endless`: before that it lets names and kinds go that have no
@@ -49,26 +47,15 @@ class LibraryEngine:
             within("blocks", blocks, records.LEAST_BLOCKS, MOST_BLOCKS)
         within("seats", seats, 1, records.MOST_SEATS)
         self.path = find_library(library)
-        self.library, self.handles = opened(self.path)
+        super().__init__(*opened(self.path))
         self.grows, self.limits, self.seats, self.endless = blocks is None, limits._checked(), seats, endless
         self.is_closed = False
         self.guard = self._guard = Guard()
         self._held: "Dict[int, weakref.ref[LibraryVersion]]" = {}
         self._versions: "List[weakref.ref[LibraryVersion]]" = []
-        # The handle of a batch that was applied, and so has no operation: the next one takes it.
-        self._empty: List[Owned] = []
-        self._freed = c_uint64()
         # (an endless one has few vertices at first, so that it lets those go that have no edge, before it takes many)
         is_plain = limits.vertices is limits.kinds is None
         self._opening = self._new(0, blocks or FIRST_BLOCKS, limits._shape(0, MOST_KINDS if endless and is_plain else 0))
-
-    def _new(self, version: int, blocks: int, shape: Limits) -> Opening:
-        """An opening with an empty desk, of so many versions before."""
-        desk = Owned(interface.Desk(), self.handles.desks)
-        weight = shape.weight or MOST_WEIGHT
-        limits = interface.Limits(sizeof(interface.Limits), shape.vertices, shape.kinds, shape.batches, weight)
-        check(self.library.desk_new_within(next(_NUMBERS), limits, blocks, desk.raw))
-        return Opening(desk, Notes(), version, version, Known.nothing(), blocks, shape)
 
     @property
     def blocks(self) -> int:
@@ -116,9 +103,10 @@ class LibraryEngine:
         elif number < opening.number:
             opening = opening._replace(before=opening.number, kept=0)
         elif flight is not None and number > opening.number:
-            flight.take(opening.before)
+            more = flight.batch.batches - 1
+            flight.take(opening.before + more)
             self._empty = [flight.owned]
-            opening = opening._replace(number=number, kept=opening.kept + flight.batch.size)
+            opening = opening._replace(before=opening.before + more, number=number + more, kept=opening.kept + flight.batch.size)
         return opening._replace(flying=None, begins_anew=False)
 
     def _opened(self, opening: Opening, flight: LibraryFlight, stat: Stat) -> Opening:
@@ -130,28 +118,7 @@ class LibraryEngine:
         self._empty = [flight.owned]
         return opening._replace(before=number, number=number, kept=0)
 
-    def _stat(self, opening: Opening) -> Stat:
-        stat = interface.Stat()
-        check(self.library.desk_stat(opening.desk.raw, stat))
-        return Stat(stat.version + opening.before, stat.vertices, stat.edges, stat.blocks_free, stat.blocks_retired,
-                    stat.blocks_used)
-
-    def _collect(self, opening: Opening) -> int:
-        check(self.library.desk_collect(opening.desk.raw, self._freed))
-        return self._freed.value
-
     # Batches.
-
-    def flight(self, batch: Operations, collect: bool) -> LibraryFlight:
-        owned = self._empty.pop() if self._empty else self._new_batch()
-        if not batch.opens:
-            fill(self.library, owned.raw, batch)
-        return LibraryFlight(batch, collect, owned)
-
-    def _new_batch(self) -> Owned:
-        owned = Owned(interface.Batch(), self.handles.batches)
-        check(self.library.batch_new(owned.raw))
-        return owned
 
     @alone
     def landed(self, flight: LibraryFlight) -> Optional[Commit]:
@@ -326,25 +293,6 @@ class LibraryEngine:
         check(self.library.desk_rebase(opening.desk.raw))
         return self._settle()
 
-    def _copy(self, content: Content, number: int, blocks: int, shape: Limits) -> Opening:
-        """A new desk, for which who makes it gives the one in use, with this content as the version of this number, so many
-        blocks and these limits. It opens with the content, where that takes no removal; else it has batches, as small as its free
-        blocks want them. Raises `Denied` (PoolEmpty) where there are too few."""
-        opening = self._new(number, blocks, shape)._replace(rebased=self._opening.rebased)
-        operations = operations_of(content)
-        if operations.codes and not operations.has(REMOVE):
-            check(self.library.desk_open_columns(opening.desk.raw, columns_of(operations), c_uint64()))
-            return opening
-        at, count = 0, len(operations.codes)
-        while at < count:
-            part = Operations(columns=operations.some(slice(at, at + min(MOST_AT_ONCE, max(self._stat(opening).free, 1)))))
-            flight = self.flight(part, True)
-            check(self.library.desk_apply(opening.desk.raw, flight.owned.raw, flight.counts))
-            self._collect(opening)
-            at += part.size
-        check(self.library.desk_rebase(opening.desk.raw))
-        return opening
-
     @alone
     def drop_idle_names(self) -> None:
         """Drops names and kinds that have no edge. The version's number stays."""
@@ -353,10 +301,10 @@ class LibraryEngine:
         self._opening = self._copy(content, opening.number, opening.blocks, opening.shape)
 
     @alone
-    def count_from(self, number: int) -> None:
-        """Counts versions on from this number, which the last one has from now on. Nobody holds one yet."""
-        opening = self._begin_anew(self._settle())
-        self._opening = opening._replace(before=number, number=number, kept=0)
+    def begin_with(self, content: Content, number: int) -> None:
+        """Has this content as the version of this number, in place of all that there is."""
+        opening = self._settle()
+        self._opening = self._copy(content, number, opening.blocks, opening.shape)
 
     def _content(self, opening: Opening) -> Content:
         """What the last version holds."""

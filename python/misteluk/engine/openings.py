@@ -18,14 +18,19 @@ def may_open(engine: Engine) -> bool:
     return isinstance(engine, LibraryEngine) and not engine.stat().vertices
 
 
+def most_blocks(edges: int, names: int, kinds: int) -> int:
+    """How many blocks so many edges take at most, between so many names and of so many kinds."""
+    return min(edges, names * kinds) + edges // records.BLOCK_EDGES
+
+
 def as_batches(engine: Engine, operations: Numbered) -> int:
     """As how many batches operations count with which a store may open. They are as large as can be; a store with so many blocks
     and no more has batches that find room there, and 0 says that it is to have them. So it does where an operation takes an edge
     away, or may overflow: an opening doesn't count these."""
     count, parts = len(operations.codes), -(-len(operations.codes) // records.MOST_OPERATIONS)
     most = MOST_AT_ONCE // records.MOST_OPERATIONS
-    edges = min(count, len(operations.of_names.encoded[1]) * len(operations.of_kinds.encoded[1])) + count // records.BLOCK_EDGES
-    used = edges if parts > most else 0
+    names, kinds = len(operations.of_names.encoded[1]), len(operations.of_kinds.encoded[1])
+    used = most_blocks(count, names, kinds) if parts > most else 0
     has_room = engine.grows or parts == 1 or engine.stat().free - used >= min(parts, most) * records.MOST_OPERATIONS
     is_plain = not (operations.has(REMOVE) or operations.has(EXPIRE))
     if not has_room or not is_plain or may_overflow(operations, engine.limits.weight or MOST_WEIGHT):

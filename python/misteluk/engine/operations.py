@@ -6,12 +6,13 @@ from __future__ import annotations
 
 from array import array
 from collections import defaultdict, deque
-from itertools import accumulate, count, islice
+from itertools import accumulate, compress, count, islice
 from operator import itemgetter
 from typing import TYPE_CHECKING, Any, Callable, DefaultDict, Dict, Iterable, List, NamedTuple, Optional, Sequence, Tuple
 
 from ..errors import Place
 from ..values import records
+from ..values.fields import numpy_for
 
 if TYPE_CHECKING:
     from ..feeds.terms import Terms
@@ -101,14 +102,25 @@ class Numbered(NamedTuple):
 
     @staticmethod
     def of(rows: Sequence[Row]) -> "Numbered":
-        codes, kinds, sources, targets, weights, times = zip(*rows) if rows else ((),) * 6
-        of_kinds, of_names = Dictionary(), Dictionary()
+        return Numbered.by(Dictionary(), Dictionary(), *(zip(*rows) if rows else ((),) * 6))
+
+    @staticmethod
+    def by(of_kinds: Dictionary, of_names: Dictionary, *columns: Sequence[Any]) -> "Numbered":
+        """Operations by columns, whose names these dictionaries have, or get."""
+        codes, kinds, sources, targets, weights, times = columns
         return Numbered(array("B", codes), of_kinds.column(kinds), of_names.column(sources), of_names.column(targets),
-                       array("q", weights), array("Q", times), of_kinds, of_names)
+                        array("q", weights), array("Q", times), of_kinds, of_names)
 
     def some(self, rows: slice) -> "Numbered":
         """Some of the operations."""
         columns: Any = [it[rows] for it in self[:6]]
+        return Numbered._make([*columns, self.of_kinds, self.of_names])
+
+    def only(self, marks: bytes) -> "Numbered":
+        """The operations that are marked by 1, of marks that are 0 or 1."""
+        numpy = numpy_for(len(marks))
+        columns: Any = [array(it.typecode, compress(it, marks) if numpy is None else
+                              numpy.asarray(it)[numpy.frombuffer(marks, "bool")].tobytes()) for it in self[:6]]
         return Numbered._make([*columns, self.of_kinds, self.of_names])
 
     def has(self, code: int) -> bool:
@@ -140,8 +152,8 @@ class Post(NamedTuple):
 class Operations:
     """Operations that go in together, as rows or as columns, and where each came from, by its place. `post` says whose batch it
     is where it is to be applied once, `terms` the names and units of a feed whose first batch it is, `feeder` who fed it, by
-    name, and `feed` of which followed feed it is, and to which place, as JSON. With `opens` they are no batch: a desk without
-    vertices opens with them, in one step that counts as so many batches."""
+    name, and `feed` of which followed feed it is, and to which place, as JSON. `batches` says as how many batches they count.
+    With `opens` they are none: a desk without vertices opens with them, in one step that counts as so many."""
 
     def __init__(self, rows: Optional[Sequence[Row]] = None, columns: Optional[Numbered] = None,
                  place: Optional[Callable[[int], Place]] = None, post: Optional[Post] = None) -> None:
@@ -149,7 +161,7 @@ class Operations:
         self.terms: "Optional[Terms]" = None
         self.feeder: Optional[str] = None
         self.feed: Optional[str] = None
-        self.opens = 0
+        self.batches, self.opens = 1, 0
         self.size = len(rows) if rows is not None else len(columns.codes) if columns else 0
 
     @property

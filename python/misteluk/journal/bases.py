@@ -1,4 +1,4 @@
-"""Bases: a version as columns, in parts of a megabyte, with a digest; and an engine that is filled from one.
+"""Bases: a version as columns, in parts of a megabyte, with a digest.
 
     kind_text, vertex_text     the names one after another, in their order
     kind_ends, vertex_ends     where each ends, as 8 bytes
@@ -20,12 +20,10 @@ from typing import Any, Dict, Iterator, List, Mapping, NamedTuple, Sequence, Tup
 
 from .sources import Sources
 from .tables import digest
-from ..engine.calling import MOST_AT_ONCE
-from ..engine.library import LibraryEngine
-from ..engine.operations import INSERT, REMOVE, Encoded, Numbered, Operations
+from ..engine.calling import texts_of
+from ..engine.copies import Content
 from ..engine.protocol import WHOLE, Arrays, Held
 from ..errors import JournalFault
-from ..values.records import BLOCK_EDGES
 
 PART = 1 << 20
 ENDS = "Q"
@@ -45,6 +43,10 @@ class Base(NamedTuple):
     def of(held: Held, texts: Mapping[str, str], sources: Sources) -> "Base":
         """A version that is held."""
         return Base(held.kinds(), held.names(), held.edges(WHOLE), texts, sources)
+
+    @property
+    def content(self) -> Content:
+        return Content(self.kinds, self.names, self.edges)
 
     def columns(self) -> Iterator[Tuple[str, bytes]]:
         """The columns by name, as they are written."""
@@ -109,45 +111,5 @@ def base_of(version: int, row: Sequence[Any], columns: Mapping[str, bytes]) -> T
 
 
 def _names(text: bytes, ends: bytes) -> List[str]:
-    return Encoded(text, _numbers(ENDS, ends)).names
+    return texts_of(array("B", text), _numbers(ENDS, ends))
 
-
-# An engine that is filled.
-
-def fill(engine: LibraryEngine, base: Base) -> None:
-    """Has an empty engine hold what a base has, with the same numbers of names and kinds. (Until the library opens a desk over
-    columns: edges that are inserted and removed again make the names known in their order, and an edge whose times differ is
-    inserted at the one and at the other.)"""
-    if not base.names:
-        return
-    dictionaries = tuple(Encoded("".join(it).encode("ascii"), array(ENDS, accumulate(map(len, it))))
-                         for it in (base.kinds, base.names))
-    engine.fit(len(base.names), len(base.kinds), _room(base))
-    loops = _loops(len(base.names), len(base.kinds))
-    later = [at for at, (first, recent) in enumerate(zip(base.edges.firsts, base.edges.recents)) if first != recent]
-    edges, again = base.edges, base.edges.at(later)
-    for code, them, times in ((INSERT, loops, loops.firsts), (REMOVE, loops, loops.firsts), (INSERT, edges, edges.firsts),
-                              (INSERT, again, again.recents)):
-        columns = Numbered(array("B", [code]) * them.size, them.kinds, them.sources, them.targets, them.weights, times,
-                           *dictionaries)
-        for at in range(0, them.size, MOST_AT_ONCE):
-            engine.fly(engine.flight(Operations(columns=columns.some(slice(at, at + MOST_AT_ONCE))), True))
-
-
-def _room(base: Base) -> int:
-    """How many blocks the edges take, with those that a batch asks for."""
-    counts: Dict[Tuple[int, int], int] = {}
-    for it in zip(base.edges.kinds, base.edges.sources):
-        counts[it] = counts.get(it, 0) + 1
-    used = sum(-(-it // BLOCK_EDGES) for it in counts.values())
-    return max(used, len(base.names) // 2 + len(base.kinds)) + MOST_AT_ONCE
-
-
-def _loops(names: int, kinds: int) -> Arrays:
-    """An edge for each two vertices, and for each further kind a loop: together they have all names in their order."""
-    firsts, more = range(0, names, 2), kinds - 1
-    sources = array("I", [*firsts, *[0] * more])
-    targets = array("I", [*(min(it + 1, names - 1) for it in firsts), *[0] * more])
-    numbers = array("I", [*[0] * len(firsts), *range(1, kinds)])
-    zeros = array("Q", bytes(8 * len(sources)))
-    return Arrays(numbers, sources, targets, array("q", bytes(8 * len(sources))), zeros, zeros)

@@ -10,7 +10,7 @@ from .bases import Base, read_base
 from .journal import must_be_whole
 from .lock import is_written
 from .opening import make_engine
-from .recovery import State, must_end, oldest_kept, rows_of
+from .recovery import State, must_end, oldest_kept
 from .tables import connect, faults_told, place_of, read_head, read_settings
 from ..values.texts import Path
 from ..errors import JournalFault
@@ -72,10 +72,10 @@ def _replay(opened: sqlite3.Connection, state: State, bases: Dict[int, Base], ol
         if oldest not in bases:
             raise JournalFault(f"the oldest base, of version {oldest}, can't be read, and nothing leads to the batches behind it")
         state.begin(oldest, *read_base(opened, oldest))
-    for row in rows_of(opened, oldest, last):
-        state.replay(row)
-        if row.version in bases and not _is_same(state, bases[row.version]):
-            raise JournalFault(f"the base of version {row.version} isn't the graph that the batches before it lead to")
+    for until in sorted({*(it for it in bases if oldest < it <= last), last}):
+        state.replay_behind(opened, until)
+        if state.version in bases and not _is_same(state, bases[state.version]):
+            raise JournalFault(f"the base of version {state.version} isn't the graph that the batches before it lead to")
     if state.version != last:
         raise JournalFault(f"the versions from {state.version + 1} on are missing, and {last} is the last one")
 

@@ -8,7 +8,7 @@ from typing import Iterator, Optional
 from .bases import Base, read_base
 from .recovery import oldest_kept, rows_of
 from .tables import connect, faults_told, place_of, read_head
-from ..engine.copies import Content, operations_of
+from ..engine.copies import operations_of
 from ..values.texts import Path
 from ..engine.operations import records_of
 from ..errors import JournalFault
@@ -39,7 +39,7 @@ def log(path: Path, since: Optional[int] = None) -> Iterator[bytes]:
 
 def _graph(base: Base) -> Iterator[bytes]:
     """What makes an empty store hold a base."""
-    rows = operations_of(Content(base.kinds, base.names, base.edges)).rows()
+    rows = operations_of(base.content).rows()
     for part in parts_of(rows, MOST_OPERATIONS):
         yield records_of(part).encode("ascii") + _COMMIT
 

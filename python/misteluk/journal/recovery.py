@@ -3,13 +3,16 @@ from __future__ import annotations
 
 import json
 import sqlite3
+from contextlib import closing
 from dataclasses import dataclass, field
-from typing import Dict, Iterator, List, Optional
+from typing import Dict, Generator, Iterable, Iterator, List, Optional, Sequence
 
-from .bases import Base, fill, read_base
+from .bases import Base, read_base
+from .joining import checked, joined, parted
 from .scripts import operations_of
 from .sources import Sources
 from .tables import NO_SUM, OF_BATCH, Head, Written, read_head
+from ..engine.openings import as_batches, may_open, most_blocks
 from ..engine.protocol import Denied
 from ..engine.waiting import WaitingEngine
 from ..errors import JournalFault
@@ -38,29 +41,54 @@ class State:
 
     def begin(self, version: int, base: Base, found: bytes) -> None:
         """Takes what the base of this version has, whose batch has this sum."""
-        fill(self.engine, base)
-        self.engine.count_from(version)
+        names, kinds = len(base.names), len(base.kinds)
+        self.engine.fit(names, kinds, most_blocks(base.edges.size + names + kinds, names, kinds) + names + kinds)
+        self.engine.begin_with(base.content, version)
         self.version = self.whole = self.base = version
         self.sum, self.texts, self.sources = found, dict(base.texts), base.sources.copy()
 
-    def replay(self, row: Written) -> None:
-        """Applies the next batch. Raises `JournalFault` where it isn't the next one, or not as it was written, or is refused."""
-        if row.version != self.version + 1:
-            raise JournalFault(f"version {self.version + 1} is missing, where {row.version} is there")
-        if row.summed(self.sum).sum != row.sum:
-            raise JournalFault(f"the batch of version {row.version} isn't as it was written")
-        operations = operations_of(row.records)
-        if row.drops:
-            self.engine.drop_idle_names()
-        try:
-            commit = self.engine.fly(self.engine.flight(operations, True))
-        except Denied as fault:
-            raise JournalFault(f"the batch of version {row.version} is refused ({fault.word})") from None
-        self.take(row, commit)
-        self.batches, self.operations = self.batches + 1, self.operations + operations.size
+    def replay(self, rows: Iterable[Written]) -> None:
+        """Applies the next batches. Raises `JournalFault` where one isn't the next one, or not as it was written, or is refused;
+        those before it are in then."""
+        for some in joined(checked(rows, self.version, self.sum), may_open(self.engine)):
+            for part, is_asked in parted(some):
+                self._apply(part, is_asked)
 
-    def take(self, row: Written, commit: Commit) -> None:
-        """Takes what came with a batch, which did this."""
+    def replay_behind(self, opened: sqlite3.Connection, last: int) -> None:
+        """Applies the file's batches up to a version, as `replay` does."""
+        with closing(rows_of(opened, self.version, last)) as rows:  # (else a fault's trace keeps what SQLite reads for it)
+            self.replay(rows)
+
+    def _apply(self, rows: Sequence[Written], is_asked: bool) -> None:
+        try:
+            self._apply_as_one(rows, is_asked)
+        except Denied:
+            self._apply_alone(rows)
+
+    def _apply_alone(self, rows: Sequence[Written]) -> None:
+        """Applies batches one after another, of which one is refused."""
+        for row in rows:
+            try:
+                self._apply_as_one([row], True)
+            except Denied as fault:
+                raise JournalFault(f"the batch of version {row.version} is refused ({fault.word})") from None
+
+    def _apply_as_one(self, rows: Sequence[Written], is_asked: bool) -> None:
+        operations, engine = operations_of([it.records for it in rows]), self.engine
+        if rows[0].drops:
+            engine.drop_idle_names()
+        if may_open(engine) and as_batches(engine, operations.columns):
+            names, kinds = len(operations.columns.of_names.numbers), len(operations.columns.of_kinds.numbers)
+            engine.fit(names, kinds, most_blocks(operations.size, names, kinds))
+            operations.opens = len(rows)
+        operations.batches = len(rows)
+        commit = engine.fly(engine.flight(operations, True))
+        for row in rows:
+            self.take(row, commit if is_asked else None)
+        self.batches, self.operations = self.batches + len(rows), self.operations + operations.size
+
+    def take(self, row: Written, commit: Optional[Commit]) -> None:
+        """Takes what came with a batch, which did this, if that may be asked again."""
         self.sum = row.sum
         self.texts.update(texts_of(row))
         self.sources.take(row, commit)
@@ -79,8 +107,7 @@ def recover(opened: sqlite3.Connection, engine: WaitingEngine, until: Optional[i
         head = read_head(opened)
         last = head.version if until is None else _kept(opened, head, until)
         _take_base(opened, state, last)
-        for row in rows_of(opened, state.version, last):
-            state.replay(row)
+        state.replay_behind(opened, last)
         if state.version != last:
             raise JournalFault(f"the versions from {state.version + 1} on are missing, and {last} is the last one")
         must_end(opened, head, state)
@@ -125,7 +152,7 @@ def texts_of(row: Written) -> Dict[str, str]:
     return found
 
 
-def rows_of(opened: sqlite3.Connection, after: int, last: int) -> Iterator[Written]:
+def rows_of(opened: sqlite3.Connection, after: int, last: int) -> Generator[Written, None, None]:
     """The batches behind a version, up to another one."""
     # (so many at the most: a damaged page may have another row behind them)
     words = f"SELECT {OF_BATCH} FROM batches WHERE version>? AND version<=? ORDER BY version LIMIT ?"

@@ -100,8 +100,7 @@ class Copy(AsOf):
         """Applies what was added. Raises `JournalFault` where it isn't what comes next: what came before it is in."""
         if added.newest < self.state.version:
             raise JournalFault(f"the first has version {added.newest} only, and had {self.state.version}: it is another one")
-        for row in added.rows:
-            self.state.replay(row)
+        self.state.replay(added.rows)
         if added.rows:
             held = self.state.engine.hold_apart()
             self.state.kinds = held.kinds()

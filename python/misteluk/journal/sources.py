@@ -35,11 +35,11 @@ class Sources:
     def copy(self) -> "Sources":
         return Sources(dict(self.producers), dict(self.keys), dict(self.feeds))
 
-    def take(self, row: Written, commit: Commit) -> None:
-        """Takes a batch, which did this."""
+    def take(self, row: Written, commit: Optional[Commit]) -> None:
+        """Takes a batch, which did this; of one that nobody asks about again how far its feed is in."""
         if row.feed is not None:
             self._take_feed(row.feed)
-        if row.producer is None:
+        if row.producer is None or commit is None:
             return
         taken = Taken(row.sequence, digest(row.records), commit)
         if row.sequence is not None:
