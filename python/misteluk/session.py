@@ -9,7 +9,7 @@ from typing import (TYPE_CHECKING, Any, Callable, Dict, Generic, Iterable, List,
 
 from . import walks
 from .engine.protocol import WHOLE, Arrays, Denied, Held, Scope
-from .errors import BadName, NoKind, NoVertex, SessionClosed, refusal
+from .errors import BadName, NoKind, NoVertex, SessionClosed, needed, refusal
 from .values import records
 from .values.answers import Answer, Components, Degree, Edge, Neighbor, T, Values, W, degrees, shown_as_html
 from .values.diff import Diff
@@ -20,6 +20,9 @@ from .values.texts import Path, text_of
 from .values.units import Moment
 
 if TYPE_CHECKING:
+    import networkx
+
+    from .graphs import Read
     from .saving import Saved
     from .store import Store
 
@@ -56,6 +59,7 @@ class Session(Generic[W, T]):
         self._slot, self.version, self.vertex_count = held.slot, held.number, held.count
         self._names: Optional[Tuple[str, ...]] = None
         self._kinds: Optional[Tuple[str, ...]] = None
+        self._read: Optional[Read] = None
 
     @property
     def is_open(self) -> bool:
@@ -254,6 +258,34 @@ class Session(Generic[W, T]):
         scope, asked = self._scope("edges", kind, since, until)
         return self._edges(self._asked(self._held.edges, asked, scope))
 
+    def graph(self, kind: Optional[str] = None, since: Moment = 0, until: Moment = LAST) -> networkx.DiGraph:
+        """Returns the version as a networkx graph, which reads what is asked for: all edges once an algorithm needs them.
+
+        It is a `networkx.DiGraph` whose edges have `kind`, `weight`, `first` and `recent`. If edges of several kinds count, it is
+        a `MultiDiGraph`, whose keys are the kinds. All names are nodes, also those without an edge. Weights are whole numbers, or
+        floats where the store's units have decimals.
+
+        Nobody can change the graph (`networkx.NetworkXError`); its `copy` is a plain graph of your own, and so is what is
+        pickled. It answers as long as the session is open, which keeps the edges that it read for the last kind and window.
+
+        >>> graph = session.graph("road")  # needs networkx
+        >>> import networkx
+        >>> networkx.shortest_path(graph, "kassel", "bonn", weight="weight")
+        ['kassel', 'fulda', 'hanau', 'bonn']
+        """
+        needed("networkx", "a graph")
+        from .graphs import Read, held_graph
+        scope, asked = self._scope("graph", kind, since, until)
+        self._asked(self._must_have_kind, asked, scope.kind)
+        read = self._read
+        if read is None or read.scope != scope:
+            read = self._read = Read(Session(self.store, self._held), scope)
+        return held_graph(read)
+
+    def _must_have_kind(self, kind: Optional[str]) -> None:
+        if kind is not None and kind not in self._held.kinds():
+            raise Denied(NoKind.word)
+
     def diff(self, later: Session[Any, Any], kind: Optional[str] = None, since: Moment = 0, until: Moment = LAST) -> Diff[W, T]:
         """Returns what became of this version's edges in a later one: those gone, new, and with another weight or time. The later
         session may be of another store, if its units are the same; `ValueError` if they aren't.
@@ -451,6 +483,7 @@ class Session(Generic[W, T]):
         >>> session.is_open
         False
         """
+        self._read = None
         if not self.store._engine.is_elsewhere and not self.store.is_closed:
             self._held.close()
 

@@ -15,6 +15,8 @@ LATER = ("remove l a c", "add k b c 2 7", "insert m d b 6 8")
 NO_ANSWERS = {"close", "edge_count", "is_open", "save", "store", "version", "vertex_count"}
 # What edges become, and the package that it needs.
 BECOME = {"to_networkx": "networkx", "to_igraph": "igraph", "to_scipy": "scipy"}
+# What a session itself answers by a package.
+NEED = {"graph": "networkx"}
 Call = Tuple[str, Callable[..., Any], Tuple[Any, ...]]
 
 
@@ -24,7 +26,8 @@ def calls(path: str) -> List[Call]:
         "edge": ("k", "a", "b"), "levels": ("a",), "path": ("a", "d"), "neighborhood": ("a", 2),
         "get_edges": ([("k", "a", "b"), ("k", "b", "c")],), "has_edge": ("k", "a", "b"), "has_vertex": ("a",),
         **dict.fromkeys(("out_edges", "in_edges", "successors", "predecessors", "neighbors"), ("a",))}
-    of_session = sorted({it for it in vars(Session) if not it.startswith("_")} - NO_ANSWERS - {"diff"})
+    missing = {it for it, package in NEED.items() if not optional(package)}
+    of_session = sorted({it for it in vars(Session) if not it.startswith("_")} - NO_ANSWERS - {"diff"} - missing)
     found: List[Call] = [(it, getattr(Session, it), given.get(it, ())) for it in of_session]
     found += [(it, lambda session, it=it: getattr(session.edges(), it)(), ())
               for it, package in {"to_pandas": "pandas", **BECOME}.items() if optional(package)]
@@ -62,7 +65,7 @@ def plain(found: Any) -> Any:
         return found.html
     if kind == "DataFrame":
         return found.values.tolist()
-    if kind == "MultiDiGraph":
+    if kind in ("MultiDiGraph", "HeldMultiDiGraph"):
         return [list(found), sorted(map(str, found.edges(data=True)))]
     if kind == "Graph":
         return [found.vs["name"], found.get_edgelist(), *(found.es[it] for it in ("kind", *misteluk.Edge._fields))]

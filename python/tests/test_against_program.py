@@ -8,7 +8,7 @@ from dataclasses import is_dataclass
 from collections import defaultdict
 from unittest import mock
 
-from asking import BECOME, NO_ANSWERS, awaited
+from asking import BECOME, NEED, NO_ANSWERS, awaited
 from graphs import KINDS, NAMES
 from harness import LAST, Refused, Run
 from support import Case, IS_SERVED, optional, row
@@ -86,7 +86,7 @@ SAID = {
     "degrees": lambda voice, a, b, k, *window: voice.degrees(*window),
     "weights_in": lambda voice, a, b, k, *window: weights_in(voice, *window),
     "edge": lambda voice, a, b, k: voice.edge(k, a, b),
-    **dict.fromkeys(("edges", "frame", "to_csv", "to_networkx", "to_igraph"),
+    **dict.fromkeys(("edges", "frame", "to_csv", "to_networkx", "to_igraph", "graph"),
                     lambda voice, a, b, k, *window: voice.edges(*window)),
     "to_scipy": lambda voice, a, b, k, *window: sums(voice.edges(*window)),
     "out_edges": lambda voice, a, b, k, *window: only_at(voice, a, 1, *window),
@@ -105,7 +105,7 @@ SAID = {
     "diff": lambda voice, a, b, k, later: diff(voice, later),
 }
 # Questions that need a package: where it isn't there they are passed over.
-NEEDS = {"frame": "pandas", **BECOME}
+NEEDS = {"frame": "pandas", **BECOME, **NEED}
 ASKED = [it for it in SAID if optional(NEEDS.get(it, "misteluk"))]
 
 
@@ -180,6 +180,8 @@ def asked(session, ask, name, path, a, b, k, *window):
     if name == "to_networkx":
         return {(key, *ends): tuple(it[field] for field in misteluk.Edge._fields)
                 for *ends, key, it in found.edges(keys=True, data=True)}
+    if name == "graph":
+        return {(it["kind"], *ends): (it["weight"], it["first"], it["recent"]) for *ends, it in found.edges(data=True)}
     if name == "to_igraph":
         names = found.vs["name"]
         return {(it["kind"], names[it.source], names[it.target]): (it["weight"], it["first"], it["recent"]) for it in found.es}

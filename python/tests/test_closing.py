@@ -14,11 +14,12 @@ import misteluk
 from misteluk import SessionClosed
 
 # Whose steps are those of a call, and for how many seconds threads ask.
-OURS, A_WHILE = ("/misteluk/engine/held.py", "/misteluk/serve/client.py", "/misteluk/session.py"), 2.0
+OURS, A_WHILE = ("/misteluk/engine/held.py", "/misteluk/serve/client.py", "/misteluk/session.py", "/misteluk/graphs.py"), 2.0
 # The calls that keep what they were told, or go by what is kept.
 OF_ALL = "degrees", "edges", "in_edges of a kind", "out_edges", "in_edges", "levels", "edge count"
 OF_OTHERS = ("to_pandas", "to_networkx", "to_igraph", "to_scipy", "view", "to_csv")
 CALLS = {name: (call, given) for name, call, given in calls("") if name not in OF_OTHERS}
+OF_ALL += tuple(it for it in ("graph",) if it in CALLS)
 
 
 class AtStep:

@@ -6,6 +6,7 @@ from array import array
 from functools import cached_property
 from typing import TYPE_CHECKING, Any, Dict, Generic, Iterator, List, Literal, Sequence, Tuple, overload
 
+from .adjacency import filled
 from .answers import ROWS_SHOWN, Edge, T, W, rows_as_html
 from .arrays import ReadOnlyArray, cut
 from .fields import fields_of_csv, numpy_for
@@ -234,11 +235,7 @@ class Edges(Sequence["Told[W, T]"], Generic[W, T]):
         210
         """
         networkx = needed("networkx", "a graph")
-        graph = networkx.MultiDiGraph(**about)
-        graph.add_nodes_from(self.names)
-        graph.add_edges_from((source, target, it, {"kind": it, "weight": edge[0], "first": edge[1], "recent": edge[2]})
-                             for it, source, target, edge in self)
-        return graph
+        return filled(networkx.MultiDiGraph(**about), self, by_kind=True)
 
     def to_igraph(self, **about: Any) -> igraph.Graph:
         """Returns the edges as a directed igraph graph. `about` are attributes of the graph.
