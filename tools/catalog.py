@@ -74,6 +74,7 @@ PARTS = {
     "Modules": [
         Tool("crate_docs", "reads sources and specs: for `docs` and `habits.py`", ""),
         Tool("crate_rows.py", "reads `crates.txt`, and finds where it differs from the map and the sources", ""),
+        Tool("changes.py", "finds the changes that `wrong-python` makes of a module, and survivors that are none", ""),
         Tool("docstrings.py", "reads the docstrings of the client", ""),
         Tool("lengths.py", "measures files and bodies", ""),
         Tool("library_tests", "has the tests of `test_library`", ""),
