@@ -14,5 +14,5 @@ ask <- function(question, ...) {
 }
 degrees <- ask("degrees", top = 3, by = "weight_out")
 print(degrees, row.names = FALSE)
-print(ask("within", vertex = "ana", hops = 1), row.names = FALSE)
+print(ask("neighborhood", vertex = "ana", hops = 1), row.names = FALSE)
 ended <- DELETE(paste0(server, "/v1/sessions/", session))
