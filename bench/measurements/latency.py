@@ -1,6 +1,6 @@
-"""How long a commit of the client takes over 500,000 R-MAT edges, by its operations: the median, the 99th percentile, 99.9,
-and the longest, elapsed. `held` is a commit beside sessions that hold the last 16 versions, `hub` one whose edges all leave the vertex
-with the most. Then how long questions of a held version take by its age: how many commits of 1,000 operations came since.
+"""How long a commit of the client takes over 500,000 R-MAT edges, by its operations: the median, the 99th percentile, 99.9, and
+the longest, elapsed. `held` is a commit beside sessions that hold the last 16 versions, `hub` one whose edges all leave the
+vertex with the most. Then how long questions of a held version take by its age: how many commits of 1,000 operations came since.
 """
 from __future__ import annotations
 
