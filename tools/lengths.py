@@ -6,7 +6,7 @@ from __future__ import annotations
 import ast
 import pathlib
 import re
-from typing import Iterable, Iterator, List, Tuple, Union
+from typing import Iterable, Iterator, List, Sequence, Tuple, Union
 
 FILE, BODY, DEPTH = 400, 40, 3
 # Languages that no prover reads (texts are programs in Rattle and their tests), and scripts; what is no work of ours, or made.
@@ -23,10 +23,18 @@ def is_python(path: pathlib.Path, text: str) -> bool:
     return path.suffix == ".py" or not path.suffix and text.startswith("#!") and "python" in text.partition("\n")[0]
 
 
-def docstrings(text: str) -> Iterator[List[str]]:
-    """Yields the lines of each docstring of a file."""
+def statements(node: ast.AST) -> Iterator[ast.AST]:
+    """Yields what has statements, and each statement below it: no function stands in an expression."""
+    yield node
+    for it in ast.iter_child_nodes(node):
+        if not isinstance(it, ast.expr):
+            yield from statements(it)
+
+
+def docstrings(text: str, file: Sequence[ast.AST]) -> Iterator[List[str]]:
+    """Yields the lines of each docstring of a file, whose statements are given."""
     lines = text.splitlines()
-    for it in ast.walk(ast.parse(text)):
+    for it in file:
         if isinstance(it, DOCUMENTED) and ast.get_docstring(it) is not None:
             yield lines[it.body[0].lineno - 1:it.body[0].end_lineno]
 
@@ -54,15 +62,15 @@ def depth(node: ast.AST) -> int:
     """Returns how deep blocks nest below a node. An `elif` nests no deeper than its `if`, and a function within counts apart."""
     most = 0
     for it in ast.iter_child_nodes(node):
-        if not isinstance(it, APART_IN_IT):
+        if not isinstance(it, (*APART_IN_IT, ast.expr)):
             is_elif = isinstance(node, ast.If) and isinstance(it, ast.If) and it.col_offset == node.col_offset
             most = max(most, depth(it) + (isinstance(it, BLOCKS) and not is_elif))
     return most
 
 
-def in_python(text: str) -> Iterator[Tuple[int, str]]:
-    """Yields what departs in a file of Python, with its line."""
-    for it in ast.walk(ast.parse(text)):
+def in_python(file: Sequence[ast.AST]) -> Iterator[Tuple[int, str]]:
+    """Yields what departs in a file of Python, whose statements are given, with its line."""
+    for it in file:
         if isinstance(it, (ast.FunctionDef, ast.AsyncFunctionDef)):
             if (count := body_length(it)) > BODY:
                 yield it.lineno, f"the body of {it.name} has {count} lines"
@@ -83,8 +91,8 @@ def too_long(top: pathlib.Path, names: Iterable[str]) -> Iterator[str]:
         if path.suffix not in WRITTEN or name.startswith(APART) or path.is_symlink() or not path.is_file():
             continue
         text = path.read_text(encoding="utf-8")
-        is_ours = is_python(path, text)
-        if (count := len(text.splitlines()) - (sum(map(of_examples, docstrings(text))) if is_ours else 0)) > FILE:
+        file = list(statements(ast.parse(text))) if is_python(path, text) else []
+        if (count := len(text.splitlines()) - sum(map(of_examples, docstrings(text, file)))) > FILE:
             yield f"{name} has {count} lines"
-        found = in_python(text) if is_ours else in_rust(text) if path.suffix in (".rs", ".txt") else ()
+        found = in_rust(text) if path.suffix in (".rs", ".txt") else in_python(file)
         yield from (f"{name}:{line}: {what}" for line, what in found)
