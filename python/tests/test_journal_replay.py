@@ -1,6 +1,7 @@
 """A replay of batches as one: it comes to what batches alone come to, tells what is asked again, and stops where one is damaged or
 refused."""
 import random
+import sqlite3
 import unittest
 from unittest import mock
 
@@ -72,7 +73,8 @@ class Parts(Case):
         second = written(2).summed(first.sum)
         self.assertEqual(list(checked([first, second], 0, NO_SUM)), [first, second])
         self.assertEqual(list(checked([second], 1, first.sum)), [second])
-        for rows, why in (([second], "version 1 is missing, where 2 is there"), ([first._replace(operations=2)], "of version 1 isn't"),
+        for rows, why in (([second], "version 1 is missing, where 2 is there"),
+                          ([first._replace(operations=2)], "of version 1 isn't"),
                           ([second._replace(version=1)], "of version 1 isn't"), ([first, first], "version 2 is missing"),
                           ([first, written(2).summed(NO_SUM)], "of version 2 isn't as it was written")):
             self.assertRaisesRegex(JournalFault, why, list, checked(rows, 0, NO_SUM))
@@ -208,7 +210,6 @@ class Replays(JournalCase):
     def test_a_damage_amid_batches_that_go_in_as_one(self):
         """The versions before it can be had."""
         self.fed(9).close()
-        import sqlite3
         opened = sqlite3.connect(self.path)
         opened.execute("UPDATE batches SET at=at+1 WHERE version=6")
         opened.commit()
