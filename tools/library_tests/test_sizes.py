@@ -8,16 +8,23 @@ import os
 import unittest
 from typing import Callable, Dict, List, Tuple
 
-from calls import Batch, Code, Desk, Refused, Version, fields, interface, view
+from calls import Batch, Code, Desk, Operation, Refused, Row, Version, fields, interface, view
 from places import library
 
 MOST = (1 << 32) - 1
 BATCHES, REBASES, HOLDS, BLOCKS = 75_000, 300, 2_000, 1 << 22
 RING = int(os.environ.get("NAMES", (1 << 18) + 1))
+# What is asked, and what it gives.
+Tables = Dict[str, Tuple[Callable[[], object], object]]
 
 
 def weight_of(place: int) -> int:
     return place % 1_000 + 1
+
+
+def edge_of(place: int) -> Row:
+    """The edge of a vertex of the ring to the next one."""
+    return 0, place, (place + 1) % RING, weight_of(place), place, place
 
 
 class Sizes(unittest.TestCase):
@@ -122,16 +129,21 @@ class Sizes(unittest.TestCase):
     def is_the_ring(self, version: Version, names: List[bytes]) -> None:
         every, half = view(), RING // 2
         self.assertEqual((version.size.vertices, version.size.edges), (RING, RING))
-        edges = [(0, it, (it + 1) % RING, weight_of(it), it, it) for it in range(RING)]
+        edges = [edge_of(it) for it in range(RING)]
         # Of the late half of the ring's times, each vertex before it is alone.
         late = view(window=(half, RING))
-        tables: Dict[str, Tuple[Callable[[], object], object]] = {
+        into = [weight_of((it - 1) % RING) for it in range(RING)]
+        tables: Tables = {
             "names": (version.names, names), "edges": (lambda: version.edges(every, 65_536), edges),
             "degrees": (lambda: version.degrees(every), [(1, 1, weight_of(it)) for it in range(RING)]),
             "levels": (lambda: version.levels(every, half), {it: (it - half) % RING for it in range(RING)}),
             "labels": (lambda: version.labels(every), [0] * RING), "cores": (lambda: version.cores(every), [2] * RING),
             "late labels": (lambda: version.labels(late), [0, *range(1, half), *[0] * (RING - half)]),
-            "late levels": (lambda: version.levels(late, half), {it % RING: it - half for it in range(half, RING + 1)})}
+            "late levels": (lambda: version.levels(late, half), {it % RING: it - half for it in range(half, RING + 1)}),
+            "weights in": (lambda: version.weights_in(every), into),
+            "late weights in": (lambda: version.weights_in(late), [into[0], *[0] * half, *into[half + 1:]]),
+            "names like": (lambda: version.names_like(b"n26214", 7), [it for it, name in enumerate(names) if b"n26214" in name]),
+            **self.walks(version)}
         for name, (ask, expected) in tables.items():
             with self.subTest(name):
                 # (not by assertEqual: it takes minutes to tell where two such tables differ)
@@ -139,7 +151,32 @@ class Sizes(unittest.TestCase):
         for place in (0, half, RING - 1):
             self.assertEqual(version.vertex(names[place]), place)
             self.assertEqual(version.row(every, place), [edges[place]])
+            self.assertEqual(version.in_edges(every, place), [edges[place - 1]])
             self.assertEqual(version.edge(0, place, (place + 1) % RING), edges[place][3:])
+
+    def walks(self, version: Version) -> Tables:
+        """Each vertex is reached by as many steps as the ring has between the two, and from the last one to the one before it by
+        all of them."""
+        every, half = view(), RING // 2
+        along, against, either = interface.ALONG, interface.AGAINST, interface.EITHER
+        return {
+            "along": (lambda: version.within(every, along, [half], 5), [(half + it, it) for it in range(6)]),
+            "against": (lambda: version.within(every, against, [2], 3), [(0, 2), (1, 1), (2, 0), (RING - 1, 3)]),
+            "either way": (lambda: version.within(every, either, [0], interface.ANY_STEPS),
+                           [(it, min(it, RING - it)) for it in range(RING)]),
+            "a path": (lambda: version.path(every, half, half - 1), [*range(half, RING), *range(half)])}
+
+    def test_a_ring_of_columns(self) -> None:
+        """A desk that begins with as many names has them all, and goes on from there."""
+        desk, names = self.open(RING + 65_536, (RING, 1, RING)), [b"n%d" % it for it in range(RING)]
+        rows: List[Operation] = [(interface.INSERT, 0, it, (it + 1) % RING, weight_of(it), it) for it in range(RING)]
+        self.assertEqual(desk.open_columns([b"k"], names, rows)[0], Code.OK)
+        self.assertEqual(fields(desk.stat()), (0, RING, 1, RING, 65_536, 0, RING))
+        version = self.hold(desk)
+        self.assertTrue(version.names() == names)
+        self.assertTrue(version.edges(view(), 65_536) == [edge_of(it) for it in range(RING)])
+        self.batch.insert(b"k", names[0], names[-1], 5, RING)
+        self.assertEqual(fields(desk.apply(self.batch)), (1, 1, 0, 0, 0, 0, 0))
 
 
 if __name__ == "__main__":
