@@ -14,7 +14,8 @@ import misteluk
 from misteluk import SessionClosed
 
 # Whose steps are those of a call, and for how many seconds threads ask.
-OURS, A_WHILE = ("/misteluk/engine/held.py", "/misteluk/serve/client.py", "/misteluk/session.py", "/misteluk/graphs.py"), 2.0
+OURS = tuple(f"/misteluk/{it}.py" for it in ("engine/held", "engine/walked", "serve/client", "session", "graphs", "walks"))
+A_WHILE = 2.0
 # The calls that keep what they were told, or go by what is kept.
 OF_ALL = "degrees", "edges", "in_edges of a kind", "out_edges", "in_edges", "levels", "edge count"
 OF_OTHERS = ("to_pandas", "to_networkx", "to_igraph", "to_scipy", "view", "to_csv")
@@ -64,11 +65,11 @@ def right(opened):
 class Meanwhile:
     """What cases share that close what is asked."""
 
-    def wrong(self, open_, close, by_instruction=False, step=1):
+    def wrong(self, open_, close, by_instruction=False, step=1, names=OF_ALL):
         """At which steps of which calls a close makes them say something else. A session is asked for the first time, and again;
         once it is closed it keeps nothing."""
         wanted, found, count = right(open_), [], 0
-        for name, is_again in product(OF_ALL, (False, True)):
+        for name, is_again in product(names, (False, True)):
             at, is_over = 1, False
             while not is_over:
                 store, session = open_()
@@ -82,7 +83,7 @@ class Meanwhile:
                 if left or said not in (True, "closed"):
                     found.append((name, is_again, at, said, left))
                 is_over, count, at = steps.left > 0, count + 1, at + step
-        self.assertGreater(count, 2 * len(OF_ALL))
+        self.assertGreater(count, 2 * len(names))
         return found
 
     @staticmethod
@@ -127,18 +128,30 @@ class Meanwhile:
 class Closing(Meanwhile, Case):
     def test_a_session_is_closed_at_each_step(self):
         store = self.store(*ROWS, seats=3)
-        for by_instruction in (False, True):
+        for by_instruction, step, names in ((False, 1, OF_ALL), (True, 1, OF_ALL), (False, 2, CALLS.keys() - OF_ALL)):
             found = self.wrong(lambda: (store, store.open()), lambda store, session: session.close(), by_instruction,
-                               step=7 if IS_SERVED else 1)
+                               step * (7 if IS_SERVED else 1), names)
             self.assertEqual(found, [])
         self.assertEqual(store._engine.open_count, 0)
+
+    def test_each_call_of_a_session_that_is_closed(self):
+        """It says so, whatever was asked before."""
+        store = self.store(*ROWS)
+        for name, is_asked in product(CALLS, (False, True)):
+            session = store.open()
+            if is_asked:
+                asked(name, session)
+            session.close()
+            self.assertRaisesRegex(SessionClosed, "^the session of version 1 is closed", asked, name, session)
+        self.assertRaisesRegex(SessionClosed, "version 1 is closed", session.save, self.room / "saved.csv")
 
     @unittest.skipIf(IS_SERVED, IN_PROCESS)
     def test_a_store_is_closed_at_each_step(self):
         def opened():
             store = self.store(*ROWS)
             return store, store.open()
-        self.assertEqual(self.wrong(opened, lambda store, session: store.close(), step=3), [])
+        for step, names in ((3, OF_ALL), (5, CALLS.keys() - OF_ALL)):
+            self.assertEqual(self.wrong(opened, lambda store, session: store.close(), step=step, names=names), [])
 
     def test_threads_ask_a_session_that_is_closed(self):
         store = self.store(*ROWS, seats=3)
@@ -156,6 +169,7 @@ class Closing(Meanwhile, Case):
         session = self.store(*ROWS).open()
         with mock.patch.object(type(session), "edge_count", property(lambda it: it.close() or it._must_be_open())):
             self.assertIn("<td>closed</td>", session._repr_html_())
+
 
 class OfServers(Meanwhile, ServeCase):
     def opened(self):

@@ -58,10 +58,11 @@ class Walked:
 
     def _index(self) -> None:
         """Has each handle that is copied from now on know the edges by their targets. Those of before go."""
-        if not self.kept.is_indexed:
+        kept = self.kept
+        if not kept.is_indexed:
             with self._known.lock:
                 code = self._library.version_index(self._first.raw)
             if code == Code.NO_HANDLE:  # (another thread closed it)
                 raise SessionClosed(f"the session of version {self.number} is closed")
             check(code)
-            self.kept.idle, self.kept.is_indexed = [], True
+            kept.idle, kept.is_indexed = [], True
