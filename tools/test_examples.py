@@ -115,6 +115,19 @@ class Named(unittest.TestCase):
             self.assertIn(first, self.parts())
             self.assertEqual((self.room / "named").read_text(), "")
 
+    def test_readme_s_two_commands(self):
+        """They stand on the first screen, with what each takes: one that runs a script, and one that tests all in minutes."""
+        lines = (TOP / "README.md").read_text(encoding="utf-8").splitlines()[:24]
+        screen = [it.strip() for it in lines if it.startswith("    ./")]
+        (run, first), (check, second) = (re.split(r"\s+# ", it) for it in screen)
+        self.assertEqual((run, check), ("./stinger run < examples/funnel.csv", "./check --unproved"))
+        for it in ("stinger", "check"):
+            self.assertTrue(os.access(TOP / it, os.X_OK), it)
+        self.assertTrue((TOP / "examples/funnel.csv").is_file())
+        self.assertRegex(first, r"first call compiles the program, in \d+ min")
+        minutes, whole = map(int, re.fullmatch(r".* in (\d+) minutes; \./check also proves it, in (\d+)", second).groups())
+        self.assertTrue(minutes <= 6 < whole)
+
     def test_the_gate_without_proofs(self):
         """It leaves out the proofs and what is measured of a proved program, and says so."""
         self.script("bin/rt", "echo a kit")
