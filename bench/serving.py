@@ -133,7 +133,7 @@ def measured(room: pathlib.Path, rate: int, count: int, pause: float, seconds: f
             store = misteluk.connect(url)
             time.sleep(2)
             times, taken = asked(store, url, count, pause, seconds)
-            store._kill()
+            store.close()
         finally:
             is_over.set()
             process.terminate()

@@ -112,7 +112,7 @@ def measure(words: argparse.Namespace, room: pathlib.Path) -> int:
         server.process.terminate()
         status = server.process.wait()
         feeder.join()
-        store._kill()
+        store.close()
     found += [f"the server ended in status {status}"] if status else []
     print(f"soak: {'; '.join(found) or 'as it should be'}")
     return int(bool(found))

@@ -1,13 +1,17 @@
-"""The options of calls, as an editor completes them and mypy checks them."""
+"""The options of calls, as an editor completes them, mypy checks them, and an error names them."""
 from __future__ import annotations
 
 from datetime import timedelta
-from typing import TYPE_CHECKING, Any, Literal, Optional, TypedDict, Union
+from functools import wraps
+from inspect import Parameter, signature
+from typing import TYPE_CHECKING, Any, Callable, Literal, Optional, TypedDict, TypeVar, Union, cast
 
 if TYPE_CHECKING:
     from .feeds.feed import Columns
     from .values.limits import Limits
     from .values.units import Units
+
+_F = TypeVar("_F", bound=Callable[..., Any])
 
 By = Literal["set", "add"]
 """Whether a later row of the same edge sets the weight or adds to it: `store.load(rows, by="add")`."""
@@ -62,3 +66,21 @@ class ReadOptions(TypedDict, total=False):
     dates: Optional[Literal["dd.mm.yyyy", "dd/mm/yyyy", "mm/dd/yyyy", "seconds", "milliseconds", "microseconds"]]
     names: Literal["plain", "escape"]
     units: Optional[Units[Any, Any]]
+
+
+def _named(call: _F) -> _F:
+    """A call that names its options where one is given that there isn't."""
+    told = signature(call).parameters.values()
+    options = [it.name for it in told if it.kind != Parameter.VAR_KEYWORD and it.name not in ("self", "cls")]
+    for it in told:
+        if it.kind == Parameter.VAR_KEYWORD:  # (`Unpack[..]` of a class here)
+            options += globals()[it.annotation[len("Unpack["):-1]].__annotations__
+    name, known = call.__qualname__.replace(".__init__", ""), frozenset(options)
+
+    @wraps(call)
+    def checked(*given: Any, **said: Any) -> Any:
+        if not said.keys() <= known:
+            wrong = next(it for it in said if it not in known)
+            raise TypeError(f"{name} has no option {wrong!r}: there are {', '.join(options)}")
+        return call(*given, **said)
+    return cast(_F, checked)

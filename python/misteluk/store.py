@@ -15,6 +15,7 @@ from .engine.protocol import Denied, Engine
 from .errors import NoSeat, PoolEmpty, Refused, StoreError, Uncommitted
 from .feeds.opening import reads
 from .ledger import Ledger
+from .options import By, ReadOptions, RestoreOptions, StoreOptions, Sync, _named
 from .session import Opened, Session
 from .values import records
 from .values.answers import Collected, Commit, Compacted, Stat, T, W, shown_as_html
@@ -25,7 +26,6 @@ from .values.units import Amount, Moment, Units, units_given
 if TYPE_CHECKING:
     from typing_extensions import Unpack
 
-    from .options import By, ReadOptions, RestoreOptions, StoreOptions, Sync
     from .feeds.following import Following
     from .feeds.loading import Loaded
     from .feeds.spans import Span
@@ -79,6 +79,7 @@ class Store(Uncopied, Opened, Generic[W, T]):
     def __init__(self: Store[Any, Any], path: Optional[Path] = None, *, units: None = None,
                  **options: Unpack[StoreOptions]) -> None: ...
 
+    @_named
     def __init__(self, path: Optional[Path] = None, *, units: Optional[Units[Any, Any]] = None, blocks: Optional[int] = None,
                  limits: Optional[Limits] = None, seats: int = records.USUAL_SEATS, endless: bool = False,
                  sync: Sync = "full", history: History = None) -> None:
@@ -291,6 +292,7 @@ class Store(Uncopied, Opened, Generic[W, T]):
                       rejects=rejects, progress=progress, **read_as)
 
     @classmethod
+    @_named
     def restore(cls, path: Path, *, units: Optional[Units[Any, Any]] = None, blocks: Optional[int] = None,
                 progress: Optional[bool] = None, **options: Unpack[RestoreOptions]) -> Store[Any, Any]:
         """Returns a store with the version that `Session.save` wrote to a file. It answers every request as that version did.
@@ -315,6 +317,7 @@ class Store(Uncopied, Opened, Generic[W, T]):
         return restore(path, make, blocks, progress)
 
     @classmethod
+    @_named
     def at(cls, path: Path, *, version: Optional[int] = None, time: Optional[When] = None,
            units: Optional[Units[Any, Any]] = None, seats: int = records.USUAL_SEATS) -> Store[Any, Any]:
         """Returns what a store's file held at a version or a time, as a store that is only read.
@@ -475,11 +478,6 @@ class Store(Uncopied, Opened, Generic[W, T]):
         False
         """
         return self._is_closed
-
-    def _kill(self) -> None:
-        """Ends the store with the graph and all that is pending."""
-        self._engine.close()
-        self._is_closed = True
 
     def __enter__(self) -> Store[W, T]:
         return self

@@ -10,7 +10,7 @@ import signal
 import sys
 import warnings
 
-from support import HERE, row
+from support import HERE, kill, row
 
 import misteluk
 from misteluk import Degree, Store
@@ -194,7 +194,7 @@ class Scene:
         assert not any(it.raw is mine for it in desks._known), "the desk"
 
     def end(self):
-        self.store._kill()
+        kill(self.store)
 
 
 LOST, WARNED = ["a,l,a,b,1,2\n"] * 3, "3 operations were pending and are not applied"

@@ -12,6 +12,7 @@ import time
 import warnings
 
 from interrupting import IN_A_CALL, handler, interrupt_in_a_call
+from support import kill
 
 import misteluk
 from misteluk import Store, survey
@@ -302,7 +303,7 @@ class Model:
         self.__dict__.update(store=self.made(), edges={}, version=0)
 
     def end(self):
-        self.store._kill()
+        kill(self.store)
 
 
 class OfFile(Model):
@@ -326,7 +327,7 @@ class OfFile(Model):
 
     def kill(self):
         self.commit()
-        self.store._kill()
+        kill(self.store)
         self.held = []
         self.begin()
 

@@ -54,9 +54,15 @@ def words_of(script: bytes) -> Dict[int, str]:
     return {int(number): word.decode() for number, word in re.findall(rb"(?m)^error (\d+) ([A-Z][A-Za-z]+)$", run.stdout)}
 
 
+def kill(store: Store) -> None:
+    """Ends a store with the graph and all that is pending: what a test plants may leave one that can't be closed."""
+    store._engine.close()
+    store._is_closed = True
+
+
 def feed_of(data: Any, **options: Any) -> Any:
     """The feed of what is given, read by these options."""
-    return ReadAs.of(options).feed(data)
+    return ReadAs(**options).feed(data)
 
 
 def as_soon_as(is_so: Callable[[], object], seconds: float = 120.0) -> None:
@@ -92,8 +98,8 @@ class Case(unittest.TestCase):
         store.close()
 
     def kill(self, store: Store) -> None:
-        """Ends a store: what a test plants may leave one that can't be closed. To be put in the place of `let_go`."""
-        store._kill()
+        """To be put in the place of `let_go`."""
+        kill(store)
 
     def feed(self, store: Store, *operations: str) -> None:
         for it in operations:

@@ -11,7 +11,7 @@ from unittest import mock
 from asking import BECOME, NEED, NO_ANSWERS, awaited
 from graphs import KINDS, NAMES
 from harness import LAST, Refused, Run
-from support import Case, IS_SERVED, optional, row
+from support import IS_SERVED, Case, kill, optional, row
 
 import misteluk
 from misteluk import Answer, AsyncSession, Diff, Edges, Session
@@ -285,7 +285,7 @@ class Both:
         self.same((name, a, b, k, window), found, wanted)
 
     def end(self):
-        self.store._kill()
+        kill(self.store)
         self.run.end()
         self.loop.close()
 

@@ -10,7 +10,7 @@ from unittest import mock
 
 import interrupting
 from interrupting import handler, interrupt_in_a_call, made_at_once, places
-from support import Case, as_soon_as
+from support import Case, as_soon_as, kill
 
 import misteluk
 from misteluk import Columns, Store, Units
@@ -354,7 +354,7 @@ class Following(Case):
 
             def end(self):
                 self.followed.close()
-                self.store._kill()
+                kill(self.store)
         return places(Scene, Scene.go_on, Scene.is_right)
 
     def test_a_call_that_nobody_waits_for(self):

@@ -6,7 +6,7 @@ import unittest
 from unittest import mock
 
 from interrupting import places
-from support import Case
+from support import Case, kill
 
 from misteluk import Columns, Store, ledger, survey
 from misteluk.feeds.loading import load_in_steps
@@ -66,7 +66,7 @@ class Scene:
             assert self.store.stat().edges == len(edges)
 
     def end(self):
-        self.store._kill()
+        kill(self.store)
 
 
 class Empty:
@@ -89,7 +89,7 @@ class Empty:
             assert not self.store.kinds()[1:] or session.edge("l", "b", "c").weight == 2
 
     def end(self):
-        self.store._kill()
+        kill(self.store)
 
 
 class Loads(Case):

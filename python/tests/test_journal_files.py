@@ -9,7 +9,7 @@ import unittest
 from unittest import mock
 
 from journaled import JournalCase, Model, batch, of_sqlite, put, told
-from support import row
+from support import kill, row
 
 from misteluk import Columns, Limits, Store, StoreError, Units, survey
 from misteluk.engine.protocol import WHOLE
@@ -249,7 +249,7 @@ class Faults(JournalCase):
             self.assertEqual(told_by.edges, len(Model().upto(2).edges) + is_in)
             with mock.patch.object(WaitingEngine, name, side_effect=KeyboardInterrupt), self.assertRaises(KeyboardInterrupt):
                 store.load([("x", "z", 1, 1)], by="set")
-            store._kill()
+            kill(store)
             self.assertRaisesRegex(StoreError, "the store is closed", store.stat)
 
     def test_pages_are_given_back(self):

@@ -6,7 +6,7 @@ import warnings
 
 from interrupting import at_line, handler, interrupt_in_a_call, places
 from modelled import OfFile
-from support import Case, row
+from support import Case, kill, row
 
 from misteluk import Store
 from misteluk.journal.checking import check
@@ -72,7 +72,7 @@ class Scene:
             assert (session.edge("k", "a", "b"), session.version) == ((weight, 1, 2), version), "the file"
 
     def end(self):
-        self.store._kill()
+        kill(self.store)
 
 
 class Interrupts(Case):

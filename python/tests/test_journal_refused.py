@@ -6,7 +6,7 @@ import unittest
 from unittest import mock
 
 from journaled import JournalCase, Model, batch, of_sqlite, put, told
-from support import row
+from support import kill, row
 
 from misteluk import Limits, Store
 from misteluk.errors import JournalFault, KindsFull, NamesFull, NotWritten, OverLimit, PoolEmpty
@@ -60,7 +60,7 @@ class Refused(JournalCase):
         with mock.patch.object(WaitingEngine, "finish", side_effect=KeyboardInterrupt), self.assertRaises(KeyboardInterrupt):
             put(store, [("insert", "k", "a", "c", 1, 1)], producer="feed", sequence=1)
         self.assertEqual((self.rows("SELECT version FROM batches"), told_of(store._engine)), ([(1,), (2,)], (1, 1)))
-        store._kill()
+        kill(store)
         with Store(self.path) as store:
             self.assertEqual((store.stat().version, row(store.commit(producer="feed", sequence=1))[:2]), (2, (2, 1)))
             with mock.patch.object(Journal, "append") as append, self.assertRaises(NamesFull):

@@ -12,7 +12,7 @@ from unittest import mock
 
 from graphs import KINDS, NAMES, Graph
 from interrupting import places
-from support import Case, optional
+from support import Case, kill, optional
 
 import misteluk
 from misteluk import Edge, Limits, Store, ledger, saving
@@ -333,7 +333,7 @@ class Scene:
         assert self.store.pending == 0
 
     def end(self):
-        self.store._kill()
+        kill(self.store)
 
 
 class Interrupts(Case):

@@ -332,9 +332,25 @@ class Help(Case):
             self.assertNotIn('"', "".join(str(it.annotation) for it in told.values()))  # (as a prompt shows them)
             self.assertEqual([it for it in told.values() if it.kind == it.VAR_KEYWORD], [])
             self.assertEqual([it for it in options if f"`{it}" not in (call.__doc__ or "")], [])
-        with misteluk.Store() as store, self.assertRaisesRegex(TypeError,
-                                                               "no option 'colums': .* columns, format, delimiter, header"):
-            store.load([("a", "b")], by="set", colums=None)
+        with misteluk.Store() as store:
+            for told, call in (
+                    ("Store.load has no option 'colums': there are data, by, batch, collect, skip_bad, rejects, progress, "
+                     "columns, format, delimiter, header, ", lambda: store.load([("a", "b")], by="set", colums=None)),
+                    ("Store.follow has no option 'keeps': there are feed, by, every, keep, ",
+                     lambda: store.follow("x.csv", by="set", keeps="1d")),
+                    ("survey has no option 'skip_bad': there are data, by, batch, ",
+                     lambda: misteluk.survey([("a", "b")], by="set", skip_bad=True)),
+                    ("Store has no option 'block': there are path, units, blocks, limits, seats, endless, sync, history",
+                     lambda: misteluk.Store(block=16)),
+                    ("Store.at has no option 'when': there are path, version, time, units, seats",
+                     lambda: misteluk.Store.at("x.db", when=5)),
+                    ("Store.restore has no option 'block': there are path, units, blocks, progress, limits, seats, endless",
+                     lambda: misteluk.Store.restore("x.gz", block=16)),
+                    ("view has no option 'before': there are session, around, hops, beside, kind, since, until, most, title",
+                     lambda: misteluk.view(None, "a", before=None)),
+                    ("connect has no option 'tokens': there are url, units, token, timeout, keep_alive",
+                     lambda: misteluk.connect("http://localhost:1", tokens="x"))):
+                self.refused(TypeError, told, call)
 
     def test_what_stands_where_another_thing_belongs(self):
         rows = [("a", "b")]

@@ -7,7 +7,7 @@ import contextlib
 import unittest
 from unittest import mock
 
-from support import Case, row
+from support import Case, kill, row
 
 import misteluk
 from misteluk import Limits
@@ -69,7 +69,7 @@ def smaller_walls(most):
 
 class Refusals(Case):
     def let_go(self, store):
-        store._kill()
+        kill(store)
 
     def give(self, store, operations):
         for it in operations:

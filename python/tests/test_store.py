@@ -3,7 +3,7 @@ import pickle
 import unittest
 from unittest import mock
 
-from support import Case, row
+from support import Case, kill, row
 
 import misteluk
 from misteluk import Commit, Degree, Edge, Stat, Store, Units, walks
@@ -106,7 +106,7 @@ class Stores(Case):
         store.remove("transfer", "ana", "funnel")
         self.assertRegex(repr(store), "^<Store of 64 blocks: 1 of 3 seats open, 1 pending, by .+>$")
         store.discard()
-        store._kill()
+        kill(store)
         self.assertTrue(store.is_closed)
         self.assertEqual(repr(store), "<Store of 64 blocks: closed>")
         self.assertRaises(misteluk.StoreError, session.levels, "ana")

@@ -359,7 +359,7 @@ def follow(store: Store[Any, Any], feed: Union[Path, Opened], *, by: str, every:
     row sets its edge's time back. Of a file its first bytes that were read, and the last ones, are looked at again with more of
     it; one that is replaced isn't followed into the new one."""
     must_be_way(by, batch)
-    how = ReadAs.of(read_as)
+    how = ReadAs(**read_as)
     terms = store._ledger.terms_for(how.units_given)
     kept = kept_time(keep, terms.units)
     pace = Pace(seconds_of(every), max(batch - (kept is not None), 1), kept, ahead_time(ahead, kept, terms.units),

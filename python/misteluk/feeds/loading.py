@@ -87,7 +87,7 @@ def load(store: Store[Any, Any], data: Any, *, by: str, batch: Optional[int] = N
         raise ValueError(f"the survey was made to {data.by}, and the load is to {by}")
     if isinstance(data, Survey) and rejects is not None:
         raise ValueError("a survey's rows were read already: say rejects= where it is made")
-    how = ReadAs.of(read_as)
+    how = ReadAs(**read_as)
     terms = store._ledger.terms_for(how.units_given)
     found = data if isinstance(data, Survey) else surveyed(data, how, terms, by, batch, progress, rejects)
     skip_bad = skip_bad or rejects is not None

@@ -10,6 +10,7 @@ from typing import Any, Callable, Optional, TypeVar
 from .advice import Reading
 from .feed import STANDARD_INPUT, Columns, Feed, Path, matrix_market, open_text, snap
 from .notations import Notation
+from ..options import _named
 from ..values.units import ISO, Units, units_given
 
 F = TypeVar("F", bound=Callable[..., Any])
@@ -52,15 +53,6 @@ class ReadAs:
         if not isinstance(self.columns, Columns):
             raise TypeError(f"columns are said as Columns(weight='amount'), and not by {type(self.columns).__name__}")
         units_given(self.units)
-
-    @classmethod
-    def of(cls, given: Mapping[str, Any]) -> "ReadAs":
-        """These options. Raises `TypeError`, which lists all, where there is no such option."""
-        names = [it.name for it in fields(cls)]
-        for it in given:
-            if it not in names:
-                raise TypeError(f"there is no option {it!r}: how a feed is read is said by {', '.join(names)}")
-        return cls(**given)
 
     @property
     def notation(self) -> Notation:
@@ -111,7 +103,7 @@ def reads(call: F) -> F:
     options = [Parameter(it.name, Parameter.KEYWORD_ONLY, default=it.default, annotation=it.type) for it in fields(ReadAs)]
     call.__doc__ = f"{cleandoc(call.__doc__ or '')}\n\n{cleandoc(ReadAs.__doc__ or '')}"
     call.__signature__ = own.replace(parameters=[*named, *options])  # type: ignore[attr-defined]
-    return call
+    return _named(call)
 
 
 def _of_object(data: Any, columns: Columns, both_ways: bool) -> Feed:

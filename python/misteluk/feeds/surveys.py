@@ -321,7 +321,7 @@ def survey(data: Any, *, by: By, batch: Optional[int] = None, progress: Optional
     >>> survey([("bonn", "kassel", 230), ("bonn", "", 98)], by="set").faults[0].field
     'target'
     """
-    how = ReadAs.of(read_as)
+    how = ReadAs(**read_as)
     return surveyed(data, how, Terms(units=how.units_given), by, batch, progress, rejects)
 
 

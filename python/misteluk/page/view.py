@@ -7,6 +7,7 @@ from typing import TYPE_CHECKING, Any, Dict, Optional, Tuple
 from ..values import records
 from ..values.limits import within
 from ..files import whole_text
+from ..options import _named
 from ..values.texts import Path
 from ..values.names import shown
 from .neighborhood import Neighborhood, Window, gather
@@ -69,6 +70,7 @@ class View:
         return f"<View of {self}>"
 
 
+@_named
 def view(session: Session[Any, Any], around: str, hops: int = 2, beside: Optional[Session[Any, Any]] = None, *,
          kind: Optional[str] = None, since: Moment = 0, until: Moment = records.MOST_TIME, most: int = USUAL_DRAWN,
          title: Optional[str] = None, labels: Optional[Tuple[str, str]] = None) -> View:

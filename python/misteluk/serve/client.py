@@ -15,6 +15,7 @@ from ..engine.guard import Guard, alone
 from ..engine.operations import Operations
 from ..engine.protocol import NO_FEEDS, SERVED, Arrays, Denied, Ends, Marks, Scope
 from ..errors import Busy, NoAnswer, NoServer, NotAllowed, Refused, SessionClosed, StoreError
+from ..options import _named
 from ..session import Session
 from ..store import Store
 from ..values.answers import Collected, Commit, Stat, T, W
@@ -144,6 +145,7 @@ class ServedEngine:
 
     name = SERVED
     operations_kept = None
+    has_ended = False  # (the store goes on without this client, and a batch that was sent may be in)
     limits, most_blocks, feeds = Limits(), MOST_BLOCKS, NO_FEEDS
 
     def __init__(self, talk: Talk, keep_alive: bool = False) -> None:
@@ -168,11 +170,6 @@ class ServedEngine:
         # (one that nobody has any more isn't held)
         self._held: WeakValueDictionary[int, ServedVersion] = WeakValueDictionary()
         self._feeder, self._number = "", 0
-
-    @property
-    def has_ended(self) -> bool:
-        """Never: the store goes on without this client, and a batch that was sent may be in."""
-        return False
 
     @property
     def is_elsewhere(self) -> bool:
@@ -400,6 +397,7 @@ def connect(url: str, *, units: None = None, token: Optional[str] = None, timeou
             keep_alive: bool = False) -> ServedStore[Any, Any]: ...
 
 
+@_named
 def connect(url: str, *, units: Optional[Units[Any, Any]] = None, token: Optional[str] = None, timeout: float = 60.0,
             keep_alive: bool = False) -> ServedStore[Any, Any]:
     """Returns the store of a server, whose sessions answer as those of a store in this process do.
