@@ -2,6 +2,7 @@
 from __future__ import annotations
 
 import concurrent.futures
+import functools
 import os
 import re
 import subprocess
@@ -21,11 +22,13 @@ SERVED = ("against_program", "arrays", "closing", "names", "objects", "read_only
 OF_SERVER = ("starlette", "uvicorn")
 
 
-def run(part: Tuple[str, bool]) -> Tuple[str, str, str]:
+def run(part: Tuple[str, bool], compiled: str) -> Tuple[str, str, str]:
     """Runs a file of tests, also over stores of servers, and gives its name, the seconds that it took with those of processor
-    time, its children's included, and what it said."""
+    time, its children's included, and what it said. What Python compiles is kept in a folder, for all files and their processes:
+    nothing is written beside the sources, and no process compiles them again."""
     begun, (name, is_served) = time.monotonic(), part
-    env = {**os.environ, **({"MISTELUK_SERVED": "1"} if is_served else {})}
+    env = {**os.environ, "PYTHONPYCACHEPREFIX": compiled, **({"MISTELUK_SERVED": "1"} if is_served else {})}
+    env.pop("PYTHONDONTWRITEBYTECODE", None)
     with tempfile.TemporaryFile("w+", errors="replace") as said:
         words = [sys.executable, "-W", "error::ResourceWarning", HERE / name, "-v"]
         process = subprocess.Popen(words, stdout=said, stderr=subprocess.STDOUT, cwd=HERE, env=env)
@@ -56,10 +59,11 @@ def main(*wanted: str) -> int:
         print(f"python/check: without {', '.join(missing)}: what needs them is passed over (apt-get install "
               f"{' '.join('python3-' + it for it in missing)})")
     passed = failed = passed_over = 0
-    with concurrent.futures.ThreadPoolExecutor(max(2, len(os.sched_getaffinity(0)))) as pool:
+    with tempfile.TemporaryDirectory() as compiled, \
+            concurrent.futures.ThreadPoolExecutor(max(2, len(os.sched_getaffinity(0)))) as pool:
         has_server = not set(OF_SERVER) & set(missing)
         parts = [(name, False) for name in names] + [(name, True) for name in names if has_server and name[5:-3] in SERVED]
-        for name, took, text in pool.map(run, parts):
+        for name, took, text in pool.map(functools.partial(run, compiled=compiled), parts):
             ran = re.search(r"(?m)^Ran (\d+) tests? in", text)
             bad = sum(map(int, re.findall(r"(?:failures|errors)=(\d+)", text.splitlines()[-1] if text else "")))
             over_here = sum(map(int, re.findall(r"skipped=(\d+)", text))) - len(re.findall(IN_PROCESS, text))

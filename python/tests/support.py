@@ -25,7 +25,6 @@ sys.path.insert(0, str(HERE.parent))
 
 from misteluk import Store  # noqa: E402
 from misteluk.engine.finding import find_program  # noqa: E402
-from misteluk.command.main import main  # noqa: E402
 from misteluk.feeds.opening import ReadAs  # noqa: E402
 
 
@@ -125,6 +124,7 @@ class CommandCase(Case):
 
     def run_it(self, *words: object) -> Tuple[int, str, str]:
         """The command's status, what it prints, and what it says on standard error."""
+        from misteluk.command.main import main
         out, err = io.StringIO(), io.StringIO()
         with redirect_stdout(out), redirect_stderr(err):
             status = main([str(it) for it in words])

@@ -13,6 +13,7 @@ import warnings
 import weakref
 from unittest import mock
 
+import interrupting
 from asking import NO_ANSWERS, ROWS, calls, plain
 from interrupting import CALLS, EDGES, KNOWN, Scene, after, elsewhere, handler, interrupt_in_a_call, places
 from modelled import Model
@@ -36,6 +37,11 @@ NO_CALLS = {"blocks", "pending", "kinds", "units", "is_closed"}
 class Interrupts(Case):
     def places(self, name, scene=Scene):
         return places(scene, CALLS[name], lambda scene: after(name, scene))
+
+    def find_a_fault(self, name, scene=Scene):
+        """Of a call in which one is planted: one place at which it goes wrong is enough."""
+        with mock.patch.object(interrupting, "MOST_WRONG", 1):
+            self.assertEqual(len(self.places(name, scene)[1]), 1)
 
     def test_each_call(self):
         for name in CALLS:
@@ -62,13 +68,13 @@ class Interrupts(Case):
             engine._opening = opening._replace(before=opening.number, kept=0, flying=None)
             return engine._opening
         with mock.patch.object(library.LibraryEngine, "_begin_anew", unnoted), mock.patch.dict(os.environ, ALL):
-            self.assertGreater(len(self.places("commit", anew)[1]), 0)
+            self.find_a_fault("commit", anew)
 
     def test_each_call_finds_a_fault(self):
         with mock.patch.object(weakref, "ref", lambda it: lambda: it):
-            self.assertGreater(len(self.places("open")[1]), 0)
+            self.find_a_fault("open")
         with mock.patch.object(ledger.Ledger, "_land", lambda _: None):
-            self.assertGreater(len(self.places("commit")[1]), 0)
+            self.find_a_fault("commit")
 
     def test_what_is_noted_too_early(self):
         """A fault to plant: a call notes that it gives what it did, and an interrupt may come before it gives that."""
@@ -78,7 +84,7 @@ class Interrupts(Case):
         with mock.patch.object(store, "noting", early):
             for name in ("commit", "nothing", "rebase", "end", "leave"):
                 with self.subTest(name):
-                    self.assertGreater(len(self.places(name)[1]), 0)
+                    self.find_a_fault(name)
 
     def test_operations_are_kept_once_or_not_at_all(self):
         for word, given in (("insert", "kst"), ("add", "kst"), ("remove", "kst"), ("expire", (3,)), ("discard", ())):

@@ -143,10 +143,12 @@ class Installs(Case):
             shutil.copy(library, self.top / "lib")
         return path
 
-    def install(self, *words, env=None) -> None:
-        """Without a network: no place of packages is asked."""
+    def install(self, *words, env=None, apart=False) -> None:
+        """Without a network: no place of packages is asked; `apart` as pip does it by itself, with a build in an environment of
+        its own, for which nothing is needed."""
+        how = () if apart else ("--no-build-isolation", "--no-compile")
         done = run(sys.executable, "-m", "pip", "install", "--no-index", "--quiet", "--disable-pip-version-check", "--target",
-                   self.there, *words, cwd=self.room, env=env)
+                   self.there, *how, *words, cwd=self.room, env=env)
         self.assertEqual(done.returncode, 0, done.stdout)
 
     def ask(self, code: str) -> str:
@@ -160,7 +162,7 @@ class Installs(Case):
     def test_pip_leaves_the_clone_as_it_was(self):
         self.program("stinger")
         before = self.listing()
-        self.install(self.top / "python")
+        self.install(self.top / "python", apart=True)
         self.assertEqual(self.listing(), before)
         told = self.ask("from misteluk import Store; from misteluk.engine.finding import find_program as f; "
                         "print(f(), Store().stat().free, sep=chr(10))")
@@ -180,7 +182,7 @@ class Installs(Case):
 
     def test_the_command(self):
         self.program("stinger")
-        self.install("--no-build-isolation", self.top / "python")
+        self.install(self.top / "python")
         env = {it: value for it, value in os.environ.items() if not it.startswith("MISTELUK_")} | {"PYTHONPATH": str(self.there)}
         told = run(self.there / "bin/misteluk", "load", "-", "--set", "--source", "1", "--target", "2", cwd="/", env=env,
                    input="a,b\n").stdout
@@ -287,7 +289,7 @@ class Installs(Case):
 
     def test_a_source_archive_can_be_installed(self):
         name = wheels.build_sdist(str(self.room))
-        self.install(self.room / name, env={**os.environ, "TMPDIR": str(self.strangers())})
+        self.install(self.room / name, env={**os.environ, "TMPDIR": str(self.strangers())}, apart=True)
         self.assertFalse((self.room / "ran").exists())
         self.assertEqual([str(it) for it in self.there.rglob("LICENSE-STRANGE")], [])
         self.assertEqual(self.ask("import misteluk; print(misteluk.__version__)").strip(), misteluk.__version__)
