@@ -73,6 +73,12 @@ class Loading(Case):
         self.assertEqual({*later, "misteluk.engine.library"} & set(loaded), set())
         self.assertIn("misteluk.store", loaded)
 
+    def test_a_command_loads_no_server(self) -> None:
+        loaded = subprocess.run([sys.executable, "-c", "import sys, misteluk.command.main; print(*sorted(sys.modules))"],
+                                stdout=subprocess.PIPE, text=True, cwd=HERE.parent, check=True, timeout=60).stdout.split()
+        self.assertEqual({"asyncio", "ssl", "http", "sqlite3", "logging", "numpy", "misteluk.journal"} & set(loaded), set())
+        self.assertIn("misteluk.command.options", loaded)
+
     def test_each_name_is_there(self) -> None:
         """Those that are loaded later stand in one list for Python, and in another for a type checker."""
         tree = ast.parse((PACKAGE / "__init__.py").read_text(encoding="utf-8"))

@@ -3,13 +3,13 @@ from __future__ import annotations
 
 import argparse
 import sys
-from typing import Any, Callable, Dict
+from typing import TYPE_CHECKING, Any, Callable, Dict
 
 from ..feeds.spans import span
-from ..journal.checking import check
-from ..journal.compaction import History
-from ..journal.logs import log
 from ..store import Store
+
+if TYPE_CHECKING:
+    from ..journal.compaction import History
 
 
 def history(text: str) -> History:
@@ -34,12 +34,14 @@ def add_commands(commands: Any) -> None:
 
 
 def run_log(words: argparse.Namespace) -> int:
+    from ..journal.logs import log
     for part in log(words.file, words.since):
         sys.stdout.write(part.decode("ascii"))
     return 0
 
 
 def run_check(words: argparse.Namespace) -> int:
+    from ..journal.checking import check
     found = check(words.file)
     print(*found.faults, sep="\n", end="\n" * bool(found.faults))
     print(f"{words.file}: versions {found.oldest} to {found.newest}, {found.batches} batches replayed, {found.bases} bases: "

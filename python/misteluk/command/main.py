@@ -10,7 +10,7 @@ import warnings
 from contextlib import contextmanager, suppress
 from typing import Any, Dict, Iterator, List, Optional
 
-from . import around, doctor, file, follow as telling, serve
+from . import around, doctor, file, follow as telling
 
 from .. import files
 
@@ -142,6 +142,7 @@ def run_follow(words: argparse.Namespace) -> int:
 
 
 def run_serve(words: argparse.Namespace) -> int:
+    from . import serve  # (which the others don't need)
     return serve.serve(words, form_of_feed(words))
 
 

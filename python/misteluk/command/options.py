@@ -2,10 +2,13 @@
 from __future__ import annotations
 
 import argparse
-from typing import Any, Optional
+from typing import Any, Optional, get_args
 
-from . import around, file, serve
+from . import around, file
 
+from ..options import Sync
+from ..serve.limits import FORMS, ROOM, USUAL, USUAL_EVERY, ServerLimits
+from ..serve.people import ROLES
 from ..values import records
 from ..values.answers import OF_DEGREES
 from ..version import VERSION
@@ -154,11 +157,48 @@ def add_follow(follow: argparse.ArgumentParser) -> None:
 def add_serve(parser: argparse.ArgumentParser) -> None:
     parser.add_argument("path", nargs="?", metavar="STORE", help="a store's file, which is made or gone on with; without one the "
                         "store is in memory alone (where --set or --add is said, the last file that is named is the feed)")
-    add_feed_options(parser, blocks=f"{serve.ROOM:,}, and more once they are needed",
+    add_feed_options(parser, blocks=f"{ROOM:,}, and more once they are needed",
                      saved="; without one a client posts the rows", is_needed=False)
     live = parser.add_argument_group("what goes in and out, and when")
     add_pace(live)
-    serve.add_options(parser)
+    add_server_options(parser)
+
+
+def add_server_options(parser: argparse.ArgumentParser) -> None:
+    usual = ServerLimits()
+    listen = parser.add_argument_group("where, and for whom")
+    listen.add_argument("--listen", default=USUAL, metavar="ADDRESS", help=f"HOST:PORT, or unix:PATH for a socket that its owner "
+                        f"alone may use ({USUAL})")
+    listen.add_argument("--token-file", metavar="PATH", help="a file of lines NAME ROLE TOKEN: each request must bear one of the "
+                        f"tokens, whose role ({', '.join(ROLES[1:])}) says what it may ask. SIGHUP has it read anew. A file of "
+                        "one word has a token for everyone; else MISTELUK_TOKEN has. An address that other machines reach wants "
+                        "one")
+    listen.add_argument("--log", choices=FORMS, help="log each request that is refused, each post and each hold on standard "
+                        "error, as text or JSON; else faults alone are logged")
+    listen.add_argument("--sync", choices=get_args(Sync), help="of a store's file: have each batch on the disk before it is "
+                        "answered (full); normal: a loss of power may cost the last ones; off: it may damage the file")
+    listen.add_argument("--history", type=file.history, metavar="N|TIME", help="of a store's file: keep the last N versions at "
+                        "least, or those of so long ago, as 30d; else all are kept")
+    listen.add_argument("--replica-of", metavar="FILE|URL", help="serve what a store's file has that another process writes, or "
+                        "what another server has, as it comes; for reading alone")
+    listen.add_argument("--save", metavar="FILE", help="begin with the version that this file has, if it is there, and save the "
+                        "last one in it at intervals and at the end. (A file that is followed is read again, and needs none.)")
+    listen.add_argument("--save-every", type=float, default=USUAL_EVERY, metavar="SECONDS", help="how often it is saved, where "
+                        f"there is another version ({USUAL_EVERY:g})")
+    listen.add_argument("--idle", type=float, default=usual.idle, metavar="SECONDS", help="let a client's version go when it was "
+                        f"silent for so long ({usual.idle:g})")
+    listen.add_argument("--versions", type=int, default=usual.versions, metavar="N", help="how many versions clients may hold, "
+                        f"besides the newest; each takes memory for what came later ({usual.versions})")
+    listen.add_argument("--clients", type=int, default=usual.clients, metavar="N", help=f"how many sessions there may be "
+                        f"({usual.clients:,})")
+    listen.add_argument("--body", type=int, default=usual.body, metavar="BYTES", help=f"how long a request's body may be "
+                        f"({usual.body:,})")
+    listen.add_argument("--longest", type=float, default=usual.time, metavar="SECONDS", help="how long an answer may take "
+                        f"({usual.time:g})")
+    listen.add_argument("--each", type=int, default=usual.each, metavar="N", help="how many questions one person may have under "
+                        f"way, where there are several tokens ({usual.each})")
+    listen.add_argument("--questions", type=int, default=usual.questions, metavar="N", help="how many questions over the whole "
+                        f"graph are answered at once ({usual.questions})")
 
 
 def add_at(at: argparse.ArgumentParser) -> None:

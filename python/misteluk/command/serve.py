@@ -9,7 +9,6 @@ import signal
 import sys
 from typing import Any, Dict, Optional, Tuple
 
-from .file import history
 from ..engine.operations import Operations
 from ..errors import StoreError
 from ..feeds.feed import STANDARD_INPUT
@@ -17,17 +16,15 @@ from ..feeds.following import Following
 from ..feeds.opening import form_of
 from ..feeds.rotation import Succession
 from ..feeds.steps import FeedMark
-from ..journal.tables import SYNCS
 from ..serve import log
 from ..serve.door import raise_descriptors
 from ..serve.ending import Deadline
-from ..serve.keeping import USUAL_EVERY, Keeper
-from ..serve.limits import ServerLimits
-from ..serve.log import FORMS
+from ..serve.keeping import Keeper
+from ..serve.limits import ROOM, ServerLimits
 from ..serve.notify import Manager
-from ..serve.people import ROLES, People, people_of
+from ..serve.people import People, people_of
 from ..serve.replica import Replica
-from ..serve.server import USUAL, Server
+from ..serve.server import Server
 from ..store import Store
 from ..values.units import Units
 from ..values import records
@@ -36,51 +33,10 @@ from ..values import records
 HEAD = b"SQLite format 3\0"
 # How long one thread of the server may run before another has its turn, in seconds: a feed at full speed else has most of them.
 TURN = 0.0005
-# How many blocks a server's store has at first, if nothing is said; those that aren't used take no memory. Versions that clients
-# hold need the blocks that batches replaced meanwhile, and a store without free ones begins anew: beside a quick feed it would do
-# so again and again.
-ROOM = 262_144
 
 # What a signal does while nothing else says so: a terminal that goes ends no server. (One that runs reads its people anew.)
 SIGNALS: Dict[signal.Signals, Any] = {signal.SIGINT: signal.default_int_handler, signal.SIGTERM: signal.default_int_handler,
                                       signal.SIGHUP: signal.SIG_IGN}
-
-
-def add_options(parser: argparse.ArgumentParser) -> None:
-    usual = ServerLimits()
-    listen = parser.add_argument_group("where, and for whom")
-    listen.add_argument("--listen", default=USUAL, metavar="ADDRESS", help=f"HOST:PORT, or unix:PATH for a socket that its owner "
-                        f"alone may use ({USUAL})")
-    listen.add_argument("--token-file", metavar="PATH", help="a file of lines NAME ROLE TOKEN: each request must bear one of the "
-                        f"tokens, whose role ({', '.join(ROLES[1:])}) says what it may ask. SIGHUP has it read anew. A file of "
-                        "one word has a token for everyone; else MISTELUK_TOKEN has. An address that other machines reach wants "
-                        "one")
-    listen.add_argument("--log", choices=FORMS, help="log each request that is refused, each post and each hold on standard "
-                        "error, as text or JSON; else faults alone are logged")
-    listen.add_argument("--sync", choices=SYNCS, help="of a store's file: have each batch on the disk before it is answered "
-                        "(full); normal: a loss of power may cost the last ones; off: it may damage the file")
-    listen.add_argument("--history", type=history, metavar="N|TIME", help="of a store's file: keep the last N versions at least, "
-                        "or those of so long ago, as 30d; else all are kept")
-    listen.add_argument("--replica-of", metavar="FILE|URL", help="serve what a store's file has that another process writes, or "
-                        "what another server has, as it comes; for reading alone")
-    listen.add_argument("--save", metavar="FILE", help="begin with the version that this file has, if it is there, and save the "
-                        "last one in it at intervals and at the end. (A file that is followed is read again, and needs none.)")
-    listen.add_argument("--save-every", type=float, default=USUAL_EVERY, metavar="SECONDS", help="how often it is saved, where "
-                        f"there is another version ({USUAL_EVERY:g})")
-    listen.add_argument("--idle", type=float, default=usual.idle, metavar="SECONDS", help="let a client's version go when it was "
-                        f"silent for so long ({usual.idle:g})")
-    listen.add_argument("--versions", type=int, default=usual.versions, metavar="N", help="how many versions clients may hold, "
-                        f"besides the newest; each takes memory for what came later ({usual.versions})")
-    listen.add_argument("--clients", type=int, default=usual.clients, metavar="N", help=f"how many sessions there may be "
-                        f"({usual.clients:,})")
-    listen.add_argument("--body", type=int, default=usual.body, metavar="BYTES", help=f"how long a request's body may be "
-                        f"({usual.body:,})")
-    listen.add_argument("--longest", type=float, default=usual.time, metavar="SECONDS", help="how long an answer may take "
-                        f"({usual.time:g})")
-    listen.add_argument("--each", type=int, default=usual.each, metavar="N", help="how many questions one person may have under "
-                        f"way, where there are several tokens ({usual.each})")
-    listen.add_argument("--questions", type=int, default=usual.questions, metavar="N", help="how many questions over the whole "
-                        f"graph are answered at once ({usual.questions})")
 
 
 def can_be_store(path: str) -> bool:

@@ -6,11 +6,12 @@ import json
 import os
 import sqlite3
 from contextlib import contextmanager
-from typing import Any, Dict, Iterator, List, NamedTuple, Optional, Tuple
+from typing import Any, Dict, Iterator, List, NamedTuple, Optional, Tuple, get_args
 from urllib.parse import quote
 
 from ..values.texts import Path
 from ..errors import JournalFault
+from ..options import Sync
 from ..values.limits import Limits
 from ..values.units import Times, Units
 
@@ -22,7 +23,7 @@ NO_SUM = bytes(16)
 WAL_BYTES, WAL_PAGES = 16 << 20, 1_000
 # For how many seconds another program's lock is waited for.
 PATIENCE = 30.0
-SYNCS = ("full", "normal", "off")
+SYNCS = get_args(Sync)
 SCHEMA = """
 CREATE TABLE meta(name TEXT PRIMARY KEY, value NOT NULL) WITHOUT ROWID;
 CREATE TABLE head(id INTEGER PRIMARY KEY CHECK (id = 0), version INT NOT NULL, epoch INT NOT NULL, sum BLOB NOT NULL,

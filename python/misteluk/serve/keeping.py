@@ -12,13 +12,12 @@ from typing import IO, Any, Dict, Optional
 
 from . import log
 from .board import Board
+from .limits import USUAL_EVERY
 from .log import without_paths
 from ..errors import StoreError
 from ..files import place_of
 from ..store import Store
 
-# Every how many seconds a version is saved, if nothing else is said.
-USUAL_EVERY = 60.0
 # A save is late when none came for so many times as long, and so many seconds.
 LATE, SLOW = 2, 30.0
 

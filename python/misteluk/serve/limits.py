@@ -23,6 +23,12 @@ MOST_VALUES = 1 << 16
 MOST_QUESTIONS = 100
 # Within how many seconds a connection has to ask something that is let in, and how many that asked nothing yet a peer may have.
 FIRST, STRANGERS = 10.0, 256
+# Where a server listens, and how often it saves, if nothing is said; and how lines of its log may be written.
+USUAL, USUAL_EVERY, FORMS = "127.0.0.1:7700", 60.0, ("text", "json")
+# How many blocks a server's store has at first, if nothing is said; those that aren't used take no memory. Versions that clients
+# hold need the blocks that batches replaced meanwhile, and a store without free ones begins anew: beside a quick feed it would do
+# so again and again.
+ROOM = 262_144
 
 
 class TooLarge(ValueError):

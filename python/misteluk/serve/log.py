@@ -13,8 +13,8 @@ from typing import Any, Dict, Optional
 
 PACKAGE = logging.getLogger("misteluk")
 LOG = logging.getLogger("misteluk.serve")
-# How a line may be written; and the level of what is told also where no log is wanted.
-FORMS, STATED = ("text", "json"), logging.INFO + 5
+# The level of what is told also where no log is wanted.
+STATED = logging.INFO + 5
 # How many characters are told of what ended a feed.
 MOST_REASON = 2_000
 
@@ -91,7 +91,7 @@ class _ToError(logging.Handler):
 
 
 class written:
-    """Has the log written while this is open: in a form of `FORMS`, or of text without what is only noted."""
+    """Has the log written while this is open: as text or JSON, or of text without what is only noted."""
 
     def __init__(self, form: Optional[str]) -> None:
         self._form, self._handler = form, _ToError()

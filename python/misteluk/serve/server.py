@@ -14,7 +14,7 @@ from .board import Board
 from .door import Door, room_for
 from .feeding import Feeding
 from .keeping import Keeper
-from .limits import LOOPBACK, ServerLimits
+from .limits import LOOPBACK, USUAL, ServerLimits
 from .metrics import Counts
 from .notify import Manager
 from .people import People
@@ -26,7 +26,6 @@ if TYPE_CHECKING:
     from .replica import Replica
 
 UNIX = "unix:"
-USUAL = "127.0.0.1:7700"
 # How many connections may be there for each client that may be, and for those that hold nothing.
 CONNECTIONS = 64
 # How many connections are taken at once at most: each has a descriptor before there is a word of who may stay.
