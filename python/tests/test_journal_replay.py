@@ -1,5 +1,5 @@
-"""A replay of batches as one: it comes to what batches alone come to, tells what is asked again, and stops where one is damaged or
-refused."""
+"""A replay of batches as one: it comes to what batches alone come to, tells what is asked again, and stops where one is damaged
+or refused."""
 import random
 import sqlite3
 import unittest

@@ -20,6 +20,7 @@ from misteluk.engine.library import LibraryEngine
 from misteluk.engine.operations import INSERT, REMOVE, Operations, Post
 from misteluk.errors import JournalFault, NotWritten
 from misteluk.journal.checking import check
+from misteluk.serve.limits import ServerLimits
 from misteluk.serve.server import Server
 
 
@@ -143,10 +144,10 @@ class AtOnce(JournalCase):
 class Together(JournalServed):
     CLIENTS = 8
 
-    def served(self, **options):
+    def served(self, within=ServerLimits(), **options):
         store = Store(self.path, seats=16, endless=True, **options)
         self.addCleanup(self.let_go, store)
-        server = Server(store, "127.0.0.1:0").start()
+        server = Server(store, "127.0.0.1:0", limits=within).start()
         self.addCleanup(server.stop)
         self.port = server.address.port
         return store, server
@@ -171,7 +172,7 @@ class Together(JournalServed):
                 threads.append(threading.Thread(target=lambda at=at, body=body, headers=headers: answers.update(
                     {at: self.ask("POST", "/v1/rows", body, **headers)})))
                 threads[-1].start()
-                as_soon_as(lambda: len(server.feeding.posts._posts) == at + 1)
+                as_soon_as(lambda: len(server._api.turns._waiting) == at + 1)
             go_on.set()
             for it in (first, *threads):
                 it.join()
@@ -219,20 +220,18 @@ class Together(JournalServed):
 
     def test_one_that_was_given_up(self):
         """A post whose client was told that it takes too long isn't made any more where it waited still."""
-        store, server = self.served()
-        waiting = server.feeding.posts
+        store, server = self.served(ServerLimits(time=0.5))
+        told = []
         with server.feeding._lock:
-            talk = http.client.HTTPConnection("127.0.0.1", self.port, timeout=60)
-            threads = [threading.Thread(target=self.add, args=(["a,b"],))]
+            threads = [threading.Thread(target=lambda it=it: told.append(self.add([it]))) for it in ("a,b", "given,up")]
             threads[0].start()
-            as_soon_as(lambda: len(waiting._posts) == 1)
-            talk.request("POST", "/v1/rows", "add,k,given,up,1,1\n", {"Content-Type": "text/csv"})
-            as_soon_as(lambda: len(waiting._posts) == 2)
-            waiting.forget(waiting._posts[1])
-        threads[0].join()
-        self.assertEqual(talk.getresponse().status, 410)
-        talk.close()
-        self.assertEqual(self.weights(), {("a", "b"): 1})
+            as_soon_as(lambda: server._api.turns._is_under_way)
+            threads[1].start()
+            for it in threads:
+                it.join()
+        self.assertEqual([(status, it["error"]) for status, it in told], [(503, "TooLong")] * 2)
+        as_soon_as(lambda: not server._api.turns._is_under_way)
+        self.assertEqual((self.add(["c,d"])[0], self.weights()), (200, {("a", "b"): 1, ("c", "d"): 1}))
 
     # What is there behind a kill.
 

@@ -34,8 +34,8 @@ class Versions(Case):
     @staticmethod
     def post(feeding, rows):
         waiting = WaitingPost(rows)
-        feeding.posts.put(waiting)
-        return feeding.rows(waiting)
+        feeding.rows([waiting])
+        return waiting.told()
 
     def test_clients_of_one_version_share_it(self):
         leases = [self.board.lease() for _ in range(20)]

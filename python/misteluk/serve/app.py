@@ -30,6 +30,7 @@ from .posts import WaitingPost
 from .questions import AT_ONCE, HELD, QUESTIONS, QUICK, WHOLE, Parameter, ServedQuestion
 from .several import Several
 from .tables import AS_CSV, CSV, wants_csv
+from .turns import Turns
 from ..engine.protocol import Denied
 from ..page.page import style
 from ..errors import NotAllowed, StoreError
@@ -67,6 +68,7 @@ class Api:
         self.feed = Pool(1, limits, "rows")
         self.bodies = Pool(1, limits, "bodies")
         self._pools = self.quick, self.held, self.slow, self.feed, self.bodies
+        self.turns = Turns(self.feed, limits, feeding.rows)
         self.shares = Shares(limits.each)
         self.answers = Answers(board, self.store._ledger.terms.names)
         # How many bytes of bodies are here.
@@ -79,11 +81,12 @@ class Api:
         files = [Route(path, _file(name, media), methods=["GET"]) for path, (name, media) in FILES.items()]
         asked = [Route(f"/v1/{it.name}", self._call(self._asking(it), it.name), methods=["GET"]) for it in QUESTIONS]
         # (routes are looked through in order: those that are asked most come first)
-        held = [("POST", "/v1/sessions/{session}/ask", self.ask), ("POST", "/v1/sessions", self.hold),
+        held = [("POST", "/v1/sessions/{session}/ask", self.ask), ("POST", "/v1/rows", self.rows),
+                ("POST", "/v1/sessions", self.hold),
                 ("PUT", "/v1/sessions/{session}", self.keep), ("DELETE", "/v1/sessions/{session}", self.let_go)]
         others = [("GET", "/v1/stat", self.stat), ("GET", "/v1/events", self.events), ("GET", "/v1/log", self.log),
                   ("POST", "/v1/ask", self.several),
-                  ("GET", "/v1/sessions", self.sessions), ("POST", "/v1/rows", self.rows),
+                  ("GET", "/v1/sessions", self.sessions),
                   ("POST", "/v1/feeder", self.claim), ("DELETE", "/v1/feeder/{feeder}", self.leave),
                   ("POST", "/v1/feeder/{feeder}/batches/{number}", self.batch),
                   ("DELETE", "/v1/feeder/{feeder}/batches/{number}", self.landed), ("GET", "/openapi.json", self.description),
@@ -266,12 +269,7 @@ class Api:
             raise ValueError("rows are text/csv or application/json, as their Content-Type says")
         key = self._key_of(request)
         person = _person(request)
-        post, waiting = WaitingPost(read(await self._body(request)), name, person, key), self.feeding.posts
-        waiting.put(post)
-        try:
-            receipt = await self.feed.run(lambda: self.feeding.rows(post))
-        finally:
-            waiting.forget(post)
+        receipt = await self.turns.answer(WaitingPost(read(await self._body(request)), name, person, key))
         log.note("posted", who=person.name, version=receipt.version)
         return as_json(vars(receipt))
 

@@ -15,7 +15,7 @@ from .checking import checked_operations, checked_rows, seen_rows
 from .limits import ServerLimits, TooLarge
 from .log import without_paths
 from .people import EVERYONE, Person
-from .posts import Queue, WaitingPost
+from .posts import WaitingPost
 from .readers import Others, Readers
 from ..engine.calling import MOST_AT_ONCE
 from ..engine.operations import Operations, Post, Row, row_of
@@ -75,7 +75,6 @@ class Feeding:
         self._lock = threading.RLock()
         self._feeder: Optional[Feeder] = None
         self._before: Deque[Feeder] = deque(maxlen=FEEDERS)
-        self.posts = Queue()
         self.readers = Readers(self._took, self._ended, board.precedence.of_feed)
         self._is_over = False
         # Whether a followed file was read to its end once.
@@ -114,14 +113,18 @@ class Feeding:
     def claim(self, person: Person = EVERYONE) -> Feeder:
         """The seat. Raises `Busy` where it is taken, but by a client that was silent too long."""
         with self._lock:
-            self._must_go_on()
-            if self._is_followed:
-                raise Busy("this server follows a feed of its own")
-            if self._feeder is not None and self._feeder.heard > self._clock() - self.limits.idle:
-                raise Busy("another client feeds this store")
+            self._must_be_free()
             self._leave()
             self._feeder = Feeder(self._clock(), person)
             return self._feeder
+
+    def _must_be_free(self) -> None:
+        """Raises `Busy` where somebody else feeds the store, or nobody may any more."""
+        self._must_go_on()
+        if self._is_followed:
+            raise Busy("this server follows a feed of its own")
+        if self._feeder is not None and self._feeder.heard > self._clock() - self.limits.idle:
+            raise Busy("another client feeds this store")
 
     def _must_go_on(self) -> None:
         if self._is_over:
@@ -198,14 +201,12 @@ class Feeding:
 
     # Rows in the user's terms.
 
-    def rows(self, post: WaitingPost) -> Commit:
-        """Applies a post's rows, each an operation's word and fields, in batches; all of them are checked before. With a key they
-        are one batch, and a repeat gets the first one's answer. Raises `Busy` where another feeds the store. What waits with the
-        post goes in with it, by one write and one sync: whose turn comes later finds its answer."""
-        if not post.is_done:
-            with self._lock:
-                self._take(self.posts.emptied())
-        return post.told()
+    def rows(self, posts: Sequence[WaitingPost]) -> None:
+        """Applies the rows of posts, each an operation's word and fields, in batches; all of a post are checked before. With a key
+        they are one batch, and a repeat gets the first one's answer. Where another feeds the store the answer is `Busy`. Posts go
+        in together, by one write and one sync, as far as that can be."""
+        with self._lock:
+            self._take(posts)
 
     def _take(self, posts: Sequence[WaitingPost]) -> None:
         together: List[Tuple[WaitingPost, Deque[List[Row]]]] = []
@@ -226,7 +227,8 @@ class Feeding:
         """The batches of a post; none where it is refused."""
         try:
             if post.name is None:
-                self.let_go(self.claim(post.person).name)
+                self._must_be_free()
+                self._leave()
             else:
                 self._known(post.name, post.person)
             found = self._records(post.rows)
@@ -258,7 +260,7 @@ class Feeding:
         batches = [self._batch(found[0], post.person, post.key) for post, found in posts]
         try:
             with self.board.precedence.of_feed():
-                done = engine.fly_all([engine.flight(it, True) for it in batches])
+                done = engine.fly_all([engine.flight(it, it is batches[-1]) for it in batches])
         except StoreError as fault:
             for post, _ in posts:
                 post.fault = fault
