@@ -202,9 +202,9 @@ class Feeding:
     # Rows in the user's terms.
 
     def rows(self, posts: Sequence[WaitingPost]) -> None:
-        """Applies the rows of posts, each an operation's word and fields, in batches; all of a post are checked before. With a key
-        they are one batch, and a repeat gets the first one's answer. Where another feeds the store the answer is `Busy`. Posts go
-        in together, by one write and one sync, as far as that can be."""
+        """Applies the rows of posts, each an operation's word and fields, in batches; all of a post are checked before. With a
+        key they are one batch, and a repeat gets the first one's answer. Where another feeds the store the answer is `Busy`.
+        Posts go in together, by one write and one sync, as far as that can be."""
         with self._lock:
             self._take(posts)
 

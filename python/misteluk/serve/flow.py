@@ -75,8 +75,8 @@ def line_of(seconds: float) -> Line:
 
 
 class within:
-    """What is awaited here ends within so many seconds, or by `Full`. (`asyncio.wait_for` makes a task of it each time, and a timer
-    of its own for each request costs as much as all else of a short wait.)"""
+    """What is awaited here ends within so many seconds, or by `Full`. (`asyncio.wait_for` makes a task of it each time, and a
+    timer for each request costs as much as all else of a short wait.)"""
 
     def __init__(self, seconds: float, reason: str) -> None:
         self._seconds, self._reason, self._is_late = seconds, reason, False

@@ -18,7 +18,7 @@ PART, LEAST = 0.5, 0.001
 
 
 class Turns:
-    """Leads posts to the thread that applies them, which takes all that wait by then: they go in by one sync. The event loop alone
+    """Leads posts to the thread that applies them, which takes all that wait by then: they go in by one sync. Only the event loop
     calls it.
 
     The first one of those who post again and again would begin the next turn alone, and the others wait until it is synced. So a
@@ -34,8 +34,8 @@ class Turns:
         self._last, self._patience = 1, 0.0
 
     async def answer(self, post: WaitingPost) -> Commit:
-        """What a post did, once its turn is over. Raises what it was refused by, and `Full` where too many wait, or where it takes
-        too long: if its turn didn't come by then it isn't made."""
+        """What a post did, once its turn is over. Raises what it was refused by, and `Full` where too many wait, or it takes too
+        long: one whose turn didn't come by then isn't made."""
         if len(self._waiting) >= WAITING:
             raise Full("TooMany", "too many questions are waiting for an answer", 1)
         waits = post, asyncio.get_running_loop().create_future()
