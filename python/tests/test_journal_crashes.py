@@ -6,8 +6,9 @@ import unittest
 from unittest import mock
 
 import crashing
+import soaking
 from journaled import told
-from support import Case
+from support import Case, optional
 
 from misteluk import Store
 from misteluk.errors import JournalFault
@@ -77,6 +78,25 @@ class Crashes(Case):
     def test_full_disks(self):
         found = crashing.full_disks(self.room, self.shimmed(), (9, 70))
         self.assertGreater(found.get("told", 0), 0)
+
+    @unittest.skipUnless(optional("starlette") and optional("uvicorn"), "starlette or uvicorn is not there")
+    def test_a_killed_server(self):
+        """With clients who send again what wasn't answered. Looked at is what is lost, in twice, in part, or out of order."""
+        clients, real = [], soaking.ended
+        with mock.patch.object(soaking, "ended", lambda path, them: (clients.extend(them), real(path, them))[1]):
+            found = soaking.soak(self.room, 0.05, least=0.5, most=1.5)
+        self.assertGreater(found["kills"], 1)
+        self.assertGreater(found["posts that were acknowledged"], 10)
+        client, path = max(clients, key=lambda it: len(it.versions)), self.room / "soaked.db"
+        for versions, why in ((client.versions + [1 << 40], "1 posts are lost"), (client.versions[:-2], "posts are in twice"),
+                              (client.versions[::-1], "a later post"), (client.versions[:1] * 2, "two posts have one")):
+            with mock.patch.object(client, "versions", versions), self.assertRaisesRegex(AssertionError, why):
+                real(path, clients)
+        for kind, weight, why in (("k", 1, "in part"), ("k", -1, "no version, or two")):
+            with Store(path) as store:
+                store.add(kind, f"c{client.number}", "t1", weight)
+                store.commit()
+            self.assertRaisesRegex(AssertionError, why, real, path, clients)
 
     def test_failed_syncs(self):
         found = crashing.failed_syncs(self.room, self.shimmed(), (9, 16, 30))
