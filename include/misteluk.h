@@ -1,3 +1,4 @@
+/* SPDX-License-Identifier: MIT OR Apache-2.0 */
 /* Misteluk: a graph of weighted, timed edges that changes in batches, and versions of it that stay as they were.
  *
  *     misteluk_desk desk = {0};

@@ -1,4 +1,4 @@
-"""Runs each command of docs/TUTORIAL.md, docs/PYTHON.md and docs/PROGRAM.md, README's parts for Python and for one's own data,
+"""Runs each command of docs/TUTORIAL.md, docs/PYTHON.md and docs/PROGRAM.md, and README's parts for Python and for own data,
 and compares what they print; and works out the stories' figures once more, by plain loops over their files."""
 import contextlib
 import csv
@@ -95,6 +95,7 @@ class Documents(Case):
 
     def test_the_commands_of_other_pages(self):
         self.assertGreater(self.run_commands(TOP / "docs/PYTHON.md"), 0)
+        self.assertEqual(self.run_commands(TOP / "README.md"), 1)
         self.assertEqual(self.run_commands(TOP / "docs/PROGRAM.md"), 1)
 
     @unittest.skipUnless((TOP / ".git").exists(), "this is no clone")
@@ -102,32 +103,15 @@ class Documents(Case):
         """Who types what the pages show at a clone's top leaves files that git passes over: the gate notes what passed of a clean
         clone alone."""
         before = set(os.listdir(self.room))
-        self.file("edges.csv", "a,b,1,1\n")
-        part = (TOP / "README.md").read_text().split("## Your own data\n")[1].split("\n## ")[0]
-        subprocess.run("\n".join(re.findall(r"(?m)^    (.*)$", part)), shell=True, executable="/bin/bash", cwd=self.room,
-                       stdout=subprocess.DEVNULL, stderr=subprocess.DEVNULL, timeout=60, check=True)
-        for it in ("TUTORIAL", "PYTHON", "PROGRAM"):
-            self.run_commands(TOP / f"docs/{it}.md")
-        for it in ("docs/TUTORIAL.md", "docs/PYTHON.md", "README.md"):
+        for it in ("README.md", "docs/TUTORIAL.md", "docs/PYTHON.md", "docs/PROGRAM.md"):
+            self.run_commands(TOP / it)
             self.conversations(TOP / it)
         left = sorted(set(os.listdir(self.room)) - before)
-        self.assertTrue({"funnel.html", "script.csv", "bank.csv", "bank.csv.gz"} <= set(left), left)
+        self.assertTrue({"funnel.html", "edges.csv", "roads.db", "graph.db", "bank.csv", "bank.csv.gz"} <= set(left), left)
         passed_over = subprocess.run(["git", "check-ignore", "--no-index", *left], cwd=TOP, stdout=subprocess.PIPE, text=True)
         self.assertEqual(passed_over.stdout.split(), left)
         others = subprocess.run(["git", "check-ignore", "--no-index", "examples/bank.csv", "new.csv"], cwd=TOP)
         self.assertEqual(others.returncode, 1)
-
-    def test_own_data(self):
-        """README's way to a script, over a batch of one edge more than it has room for, and the components that it asks for."""
-        part = (TOP / "README.md").read_text().split("## Your own data\n")[1].split("\n## ")[0]
-        typed = "\n".join(re.findall(r"(?m)^    (.*)$", part))
-        self.file("edges.csv", "".join(f"v{it},v{it + 1},{it},{it}\n" for it in range(4097)))
-        told = subprocess.run(typed, shell=True, executable="/bin/bash", cwd=self.room, stdout=subprocess.PIPE,
-                              stderr=subprocess.DEVNULL, text=True, timeout=60).stdout.splitlines()
-        self.assertEqual(told[:6], ["commit v=1 ins=4096 upd=0 rem=0 abs=0 ovf=0", "collect floor=1 recycled=0 retired=0",
-                                    "commit v=2 ins=1 upd=0 rem=0 abs=0 ovf=0", "collect floor=2 recycled=0 retired=0",
-                                    "open 0 v=2", "comp 0 parts=1"])
-        self.assertEqual(told[6:], [f"v{it} v0" for it in range(4098)])
 
     def test_a_line_that_differs_is_found(self):
         page = pathlib.Path(self.file("page.md", "\n    $ echo misteluk; echo two\n    misteluk\n    three\n"))
