@@ -24,8 +24,8 @@ BEFORE = """# Tools
 Run each at the top of the repository: `tools/NAME --help`, or the head of its file, says more. `./check` runs the tools that its
 rows name, and says which part failed.
 
-Names: the words of a command are joined by hyphens (`crates-above`), those of a module, in `.py`, by underscores. What begins with
-`test_` is a test that `./check` runs. What begins with `try-` takes too long for it, or needs more than it has.
+Names: the words of a command are joined by hyphens (`crates-above`), those of a module, in `.py`, by underscores. What begins
+with `test_` is a test that `./check` runs. What begins with `try-` takes too long for it, or needs more than it has.
 """
 
 
@@ -57,7 +57,7 @@ PARTS = {
         Tool("wrong-bodies", "tries the wrong bodies that the gate doesn't: the prover must refuse each"),
         Tool("wrong-python", "makes wrong bodies of the client, and prints those that its tests don't refuse"),
         Tool("interface", "writes what Python declares of `include/misteluk.h`", "`test_library`, or by hand"),
-        Tool("help-pages", "writes manual page and completions to `share/` from the program's help", "`python/check`, or by hand"),
+        Tool("help-pages", "writes manual page and completions from the program's help", "`python/check`, or by hand"),
         Tool("catalog.py", "writes this page", "`habits.py`, or by hand"),
     ],
     "Before a release": [
