@@ -110,7 +110,7 @@ def wide_lines(path):
     for number, line in enumerate(path.read_text(encoding="utf-8").splitlines(), 1):
         is_as_it_is = path.suffix == ".md" and line.startswith(("|", "    "))
         if len(line) > WIDTH and not is_as_it_is:
-            yield f"{path.relative_to(TOP)}:{number}: {len(line)} characters"
+            yield f"{path.relative_to(TOP)}:{number}: {len(line)} characters, of at most {WIDTH}"
 
 
 def written(page):
@@ -140,7 +140,7 @@ def long_sentences(page):
     for sentence in sentences(page):
         words = [it for it in sentence.split() if re.search(r"\w", it)]
         if len(words) > SENTENCE:
-            yield f"{page.relative_to(TOP)}: {len(words)} words: {' '.join(words[:12])} .."
+            yield f"{page.relative_to(TOP)}: {len(words)} words, of at most {SENTENCE}: {' '.join(words[:12])} .."
 
 
 def anchors(page):
@@ -247,7 +247,7 @@ def long_rooms():
     for page in rooms():
         count = len(page.read_text(encoding="utf-8").splitlines())
         if count >= ROOM:
-            yield f"{page.relative_to(TOP)} has {count} lines"
+            yield f"{page.relative_to(TOP)} has {count} lines: a crate's README has fewer than {ROOM}"
 
 
 def programs():
@@ -316,14 +316,15 @@ def plain_pages(known):
 def too_many_bytes(pages):
     total = sum(len(it.read_bytes()) for it in pages)
     if total > BYTES:
-        yield f"{len(pages)} pages have {total:,} bytes, {total - BYTES:,} too many"
+        yield (f"{total:,} bytes, {total - BYTES:,} too many: README.md, CONTRIBUTING.md, docs/ and python/README.md have together "
+               f"at most {BYTES:,}. Say a fact once, or move it to a crate's README; CHANGELOG.md isn't counted")
 
 
 def long_subjects():
     is_known = subprocess.run(["git", "cat-file", "-e", SINCE], cwd=TOP, capture_output=True).returncode == 0
     for subject in git("log", "--format=%s", *([f"{SINCE}.."] if is_known else ["-1"])):
         if len(subject) > SUBJECT:
-            yield f"a commit's subject has {len(subject)} characters: {subject}"
+            yield f"a commit's subject has {len(subject)} characters, of at most {SUBJECT}: {subject}"
 
 
 def main():

@@ -73,15 +73,15 @@ def in_python(file: Sequence[ast.AST]) -> Iterator[Tuple[int, str]]:
     for it in file:
         if isinstance(it, (ast.FunctionDef, ast.AsyncFunctionDef)):
             if (count := body_length(it)) > BODY:
-                yield it.lineno, f"the body of {it.name} has {count} lines"
+                yield it.lineno, f"the body of {it.name} has {count} lines, of at most {BODY}"
             if (count := depth(it)) > DEPTH:
-                yield it.lineno, f"{it.name} nests {count} deep"
+                yield it.lineno, f"{it.name} nests {count} deep, and at most {DEPTH} are allowed"
 
 
 def in_rust(text: str) -> Iterator[Tuple[int, str]]:
     for found in RUST.finditer(text):
         if (count := found[3].count("\n")) > BODY:
-            yield text.count("\n", 0, found.start(2)) + 1, f"the body of {found[2]} has {count} lines"
+            yield text.count("\n", 0, found.start(2)) + 1, f"the body of {found[2]} has {count} lines, of at most {BODY}"
 
 
 def too_long(top: pathlib.Path, names: Iterable[str]) -> Iterator[str]:
@@ -93,6 +93,6 @@ def too_long(top: pathlib.Path, names: Iterable[str]) -> Iterator[str]:
         text = path.read_text(encoding="utf-8")
         file = list(statements(ast.parse(text))) if is_python(path, text) else []
         if (count := len(text.splitlines()) - sum(map(of_examples, docstrings(text, file)))) > FILE:
-            yield f"{name} has {count} lines"
+            yield f"{name} has {count} lines, of at most {FILE}: part it by what it does"
         found = in_rust(text) if path.suffix in (".rs", ".txt") else in_python(file)
         yield from (f"{name}:{line}: {what}" for line, what in found)
