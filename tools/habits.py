@@ -316,7 +316,7 @@ def plain_pages(known):
 def too_many_bytes(pages):
     total = sum(len(it.read_bytes()) for it in pages)
     if total > BYTES:
-        yield (f"{total:,} bytes, {total - BYTES:,} too many: README.md, CONTRIBUTING.md, docs/ and python/README.md have together "
+        yield (f"{total:,} bytes, {total - BYTES:,} too many: README.md, CONTRIBUTING.md, docs/, python/README.md have together "
                f"at most {BYTES:,}. Say a fact once, or move it to a crate's README; CHANGELOG.md isn't counted")
 
 
