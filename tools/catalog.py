@@ -58,6 +58,7 @@ PARTS = {
         Tool("wrong-python", "makes wrong bodies of the client, and prints those that its tests don't refuse"),
         Tool("interface", "writes what Python declares of `include/misteluk.h`", "`test_library`, or by hand"),
         Tool("help-pages", "writes manual page and completions from the program's help", "`python/check`, or by hand"),
+        Tool("lemma-index", "writes the [index of lemmas](../crates/LEMMAS.md)", "`habits.py`, or by hand"),
         Tool("catalog.py", "writes this page", "`habits.py`, or by hand"),
     ],
     "Before a release": [
@@ -76,6 +77,7 @@ PARTS = {
         Tool("crate_rows.py", "reads `crates.txt`, and finds where it differs from the map and the sources", ""),
         Tool("changes.py", "finds the changes that `wrong-python` makes of a module, and survivors that are none", ""),
         Tool("docstrings.py", "reads the docstrings of the client", ""),
+        Tool("lemma_pages.py", "reads the pages of lemmas", ""),
         Tool("lengths.py", "measures files and bodies", ""),
         Tool("library_tests", "has the tests of `test_library`", ""),
         Tool("linking.py", "links the shared and the static library", ""),

@@ -23,6 +23,7 @@
 - No definition, and no lemma with its name and type, stands twice in `specs/` and `proofs/`.
 - The name of a definition of `specs/` stands in one crate, unless `statements.SEVERAL` says why in several.
 - Each tool has a line of `tools/catalog.py`, which says truly whether `./check` runs it, and a name in the style of the others.
+- Each page of lemmas begins with what they are about, and crates/LEMMAS.md lists it.
 - A wrong body names files of its crate, and has pairs of an old line, which stands in its file once, and a new one. A line of
   python/survivors.txt is of a change that `tools/wrong-python` makes, and says why no test need fail it.
 - README.md, CONTRIBUTING.md, docs/ and python/README.md have together at most 160,000 bytes: a page that gets longer has another
@@ -43,6 +44,7 @@ import catalog
 import changes
 import crate_rows
 import docstrings
+import lemma_pages
 import lengths
 import statements
 from crate_docs import readmes
@@ -348,6 +350,7 @@ def main():
         "wrong bodies": [*(it for path in edits for it in lost_edits(path)), *changes.lost()],
         "bytes of pages": list(too_many_bytes(plain_pages(known))),
         "tools": list(catalog.astray(TOP)),
+        "index of lemmas": list(lemma_pages.stale(TOP)),
         "lengths": list(lengths.too_long(TOP, git("ls-files"))),
         "subjects": list(long_subjects()),
     }
