@@ -14,7 +14,7 @@ Where a task begins (`help(misteluk.Store.load)` has more, and so on):
 - Amounts with cents, and dates: `Store(units=Units(weight_scale=100, times="iso"))`. Without units both are whole numbers.
 - Ask: `Store.open` returns a `Session`, with `degrees`, `weights_in`, `out_edges`, `in_edges`, `neighborhood`, `path`,
   `components` and others. Each answer has `to_pandas`; tables and edges have `top`; `Edges` have `to_networkx` too.
-- Compare two versions: `Session.diff`. Draw them: `view`, which makes a page.
+- Compare two versions: `Session.diff`, `Session.flows`. Draw them: `view`, which makes a page.
 - Keep: `Store("graph.db")` writes each commit to a file, and `Store.at` reads an earlier version of it. `Session.save` writes one
   version, and `Store.restore` reads it.
 - Serve: `python -m misteluk serve --help` in a shell. Other processes ask by `connect` or `AsyncSession`, and `ServedStore.stat`
@@ -31,7 +31,7 @@ from .errors import BadRows, JournalError, NoVertex, Refused, SessionClosed, Sto
 from .feeds.feed import Columns
 from .session import Session
 from .store import Store
-from .values.answers import Answer, Collected, Commit, Compacted, Components, Degree, Edge, Neighbor, Stat
+from .values.answers import Answer, Collected, Commit, Compacted, Components, Degree, Edge, Flow, Neighbor, Stat
 from .values.diff import Changed, Diff
 from .values.edges import Edges
 from .values.limits import Limits
@@ -61,7 +61,7 @@ __all__ = [
     "Store", "Session", "Units", "Limits", "Columns", "connect", "ServedStore", "AsyncSession", "Part",
     "survey", "Survey", "Loaded", "Following", "Followed", "Rejected",
     "Commit", "Collected", "Compacted", "Stat", "Saved",
-    "Answer", "Components", "Degree", "Edge", "Edges", "Neighbor", "Diff", "Changed", "view", "View",
+    "Answer", "Components", "Degree", "Edge", "Edges", "Neighbor", "Diff", "Changed", "Flow", "view", "View",
     "StoreError", "Refused", "BadRows", "NoVertex", "SessionClosed", "JournalError",
 ]
 

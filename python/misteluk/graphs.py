@@ -9,7 +9,7 @@ from typing import TYPE_CHECKING, Any, Dict, Iterator, KeysView, ItemsView, Mapp
 import networkx
 from networkx.classes.function import frozen
 
-from .engine.protocol import Arrays, Scope
+from .engine.protocol import Arrays, Scope, must_have_kind
 from .values.adjacency import Row, adjacency, filled, put
 from .values.edges import Edges
 
@@ -177,6 +177,10 @@ class HeldMultiDiGraph(_HeldGraph, networkx.MultiDiGraph):
     _plain = networkx.MultiDiGraph
 
 
-def held_graph(read: Read) -> Any:
-    """A graph of what is read: with several kinds it has an edge for each of them between two names."""
+def graph_of(session: Session[Any, Any], scope: Scope) -> Any:
+    """A graph of a version, whose session keeps what is read. Raises `Denied` for a kind that the version doesn't have."""
+    must_have_kind(session._held, scope.kind)
+    read = session._read
+    if read is None or read.scope != scope:
+        read = session._read = Read(type(session)(session.store, session._held), scope)
     return (HeldMultiDiGraph if read.by_kind else HeldDiGraph)._of(read)

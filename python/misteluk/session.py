@@ -7,11 +7,11 @@ from contextlib import suppress
 from typing import (TYPE_CHECKING, Any, Callable, Dict, Generic, Iterable, List, Literal, Optional, Sequence, Tuple, TypeVar,
                     Union, overload)
 
-from . import walks
+from . import totals, walks
 from .engine.protocol import WHOLE, Arrays, Denied, Held, Scope
 from .errors import BadName, NoKind, NoVertex, SessionClosed, needed, refusal
 from .values import records
-from .values.answers import Answer, Components, Degree, Edge, Neighbor, T, Values, W, degrees, shown_as_html
+from .values.answers import Answer, Components, Degree, Edge, Flow, Neighbor, T, Values, W, degrees, shown_as_html
 from .values.diff import Diff
 from .values.edges import Edges, Told
 from .values.names import Called, must_be_texts
@@ -172,16 +172,37 @@ class Session(Generic[W, T]):
         scope, asked = self._scope("cores", kind, since, until)
         return self._answer("core", asked, {"core": Values(self._asked(self._held.cores, asked, scope))})
 
-    def degrees(self, kind: Optional[str] = None, since: Moment = 0, until: Moment = LAST) -> Answer[Degree[W]]:
+    def degrees(self, kind: Optional[str] = None, since: Moment = 0, until: Moment = LAST, *,
+                among: Optional[Iterable[str]] = None) -> Answer[Degree[W]]:
         """Returns how many edges go out of each vertex and come in, and the weight that goes out. An edge in the window counts
-        with its whole weight, of which a part may be older.
+        with its whole weight, of which a part may be older. With `among`, names of vertices, the table has these vertices, and
+        only edges count that have both ends among them.
 
         >>> session.degrees()["kassel"]
         Degree(out=2, into=0, weight_out=315)
+        >>> session.degrees(among=["hanau", "kassel"])
+        {'kassel': Degree(out=1, into=0, weight_out=210), 'hanau': Degree(out=0, into=1, weight_out=0)}
         """
+        if among is not None:
+            return totals.degrees_among(self, among, kind, since, until)
         scope, asked = self._scope("degrees", kind, since, until)
         found = self._asked(self._held.degrees, asked, scope)
         return self._answer("degree", asked, degrees(*found, self._terms.units._weights_told))
+
+    def flows(self, earlier: Session[Any, Any], kind: Optional[str] = None) -> Answer[Flow[W]]:
+        """Returns what became of each vertex's edges since an earlier version: how many of those that go out and come in are
+        gone, new or changed, and by how much their weight grew. So a version held at the end of each month gives each month's
+        amounts.
+
+        `earlier` is a session of the same store, or of one restored from it, or from which it was restored. `ValueError`: the
+        stores have other units, or its names don't have the same places: the store started over in between, or it is another.
+
+        >>> store.add("rail", "kassel", "hanau", 40, time=5)
+        >>> done = store.commit()
+        >>> store.open().flows(session)["hanau"]
+        Flow(out=0, into=1, weight_out=0, weight_in=40)
+        """
+        return totals.flows(self, earlier, kind)
 
     def weights_in(self, kind: Optional[str] = None, since: Moment = 0, until: Moment = LAST) -> Answer[W]:
         """Returns the weight that comes into each vertex. An edge in the window counts as in `degrees`.
@@ -274,17 +295,9 @@ class Session(Generic[W, T]):
         ['kassel', 'fulda', 'hanau', 'bonn']
         """
         needed("networkx", "a graph")
-        from .graphs import Read, held_graph
+        from .graphs import graph_of
         scope, asked = self._scope("graph", kind, since, until)
-        self._asked(self._must_have_kind, asked, scope.kind)
-        read = self._read
-        if read is None or read.scope != scope:
-            read = self._read = Read(Session(self.store, self._held), scope)
-        return held_graph(read)
-
-    def _must_have_kind(self, kind: Optional[str]) -> None:
-        if kind is not None and kind not in self._held.kinds():
-            raise Denied(NoKind.word)
+        return self._asked(graph_of, asked, self, scope)
 
     def diff(self, later: Session[Any, Any], kind: Optional[str] = None, since: Moment = 0, until: Moment = LAST) -> Diff[W, T]:
         """Returns what became of this version's edges in a later one: those gone, new, and with another weight or time. The later

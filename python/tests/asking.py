@@ -27,7 +27,7 @@ def calls(path: str) -> List[Call]:
         "get_edges": ([("k", "a", "b"), ("k", "b", "c")],), "has_edge": ("k", "a", "b"), "has_vertex": ("a",),
         **dict.fromkeys(("out_edges", "in_edges", "successors", "predecessors", "neighbors"), ("a",))}
     missing = {it for it, package in NEED.items() if not optional(package)}
-    of_session = sorted({it for it in vars(Session) if not it.startswith("_")} - NO_ANSWERS - {"diff"} - missing)
+    of_session = sorted({it for it in vars(Session) if not it.startswith("_")} - NO_ANSWERS - {"diff", "flows"} - missing)
     found: List[Call] = [(it, getattr(Session, it), given.get(it, ())) for it in of_session]
     found += [(it, lambda session, it=it: getattr(session.edges(), it)(), ())
               for it, package in {"to_pandas": "pandas", **BECOME}.items() if optional(package)]
@@ -37,7 +37,8 @@ def calls(path: str) -> List[Call]:
         ("edge count", lambda session: session.edge_count, ()),
         ("to_csv", lambda session: session.edges().to_csv(path), ()),
         ("either way", lambda session: session.neighborhood("a", 2, directed=False), ()),
-        ("diff", lambda session: session.diff(session), ()), ("view", misteluk.view, ("a",))]
+        ("diff", lambda session: session.diff(session), ()), ("flows", lambda session: session.flows(session), ()),
+        ("among", lambda session: session.degrees(among=["a", "c"]), ()), ("view", misteluk.view, ("a",))]
 
 
 def awaited(session: "misteluk.AsyncSession[Any, Any]", loop: asyncio.AbstractEventLoop) -> Callable[..., Any]:

@@ -59,6 +59,26 @@ def diff(voice, later):
             changed]
 
 
+def flows(voice, later):
+    gone, new, changed = diff(voice, later)
+    found = {it: [0] * 4 for it in later.degrees()}
+    grown = [*((ends, -marks[0]) for ends, marks in gone.items()), *((ends, marks[0]) for ends, marks in new.items()),
+             *((ends, after[0] - before[0]) for ends, (before, after) in changed.items())]
+    for (_, source, target), weight in grown:
+        found[source][0], found[source][2] = found[source][0] + 1, found[source][2] + weight
+        found[target][1], found[target][3] = found[target][1] + 1, found[target][3] + weight
+    return {it: tuple(values) for it, values in found.items()}
+
+
+def among(voice, names, *window):
+    edges = {ends: marks for ends, marks in voice.edges(*window).items() if {*ends[1:]} <= set(names)}
+    known = voice.degrees()
+    if not set(names) <= set(known):
+        raise Refused("NoVertex")
+    return {it: (sum(ends[1] == it for ends in edges), sum(ends[2] == it for ends in edges),
+                 sum(marks[0] for ends, marks in edges.items() if ends[1] == it)) for it in names}
+
+
 def length(voice, source, target, *window):
     levels = voice.levels(source, *window)
     return levels[target] if target in levels or not voice.levels(target, *window) else None
@@ -102,7 +122,8 @@ SAID = {
     "has_edge": lambda voice, a, b, k: (k, a, b) in voice.edges(),
     "vertices": lambda voice, a, b, k: tuple(voice.degrees()),
     "kinds": lambda voice, a, b, k: {it for it in KINDS if knows(voice, it)},
-    "diff": lambda voice, a, b, k, later: diff(voice, later),
+    "among": lambda voice, a, b, k, *window: among(voice, (a, b), *window),
+    "diff": lambda voice, a, b, k, later: diff(voice, later), "flows": lambda voice, a, b, k, later: flows(voice, later),
 }
 # Questions that need a package: where it isn't there they are passed over.
 NEEDS = {"frame": "pandas", **BECOME, **NEED}
@@ -163,6 +184,8 @@ def asked(session, ask, name, path, a, b, k, *window):
         return plain(ask(Session.neighborhood, a, 2, *window))
     if name == "either_way":
         return plain(ask(lambda session: session.neighborhood(a, 2, directed=False)))
+    if name == "among":
+        return plain(ask(lambda session: session.degrees(*window, among=iter([b, a, b]))))
     if name == "to_csv":
         return csv_of(ask, path, *window)
     if name == "path":
@@ -177,10 +200,7 @@ def asked(session, ask, name, path, a, b, k, *window):
         rows = ask(Session.edges, *window).to_pandas()
         return {it[:3]: it[3:] for it in rows.itertuples(index=False, name=None)}
     found = getattr(ask(Session.edges, *window), name)() if name in BECOME else ask(getattr(Session, name), *window)
-    if name == "to_networkx":
-        return {(key, *ends): tuple(it[field] for field in misteluk.Edge._fields)
-                for *ends, key, it in found.edges(keys=True, data=True)}
-    if name == "graph":
+    if name in ("to_networkx", "graph"):
         return {(it["kind"], *ends): (it["weight"], it["first"], it["recent"]) for *ends, it in found.edges(data=True)}
     if name == "to_igraph":
         names = found.vs["name"]
@@ -267,10 +287,11 @@ class Both:
                 self.ask(session, voice, by, name, path)
 
     def ask(self, session, voice, by, name, path):
-        if name == "diff":
-            later, heard = self.held[-1]
-            return self.same(name, plain(by(Session.diff, later)), diff(voice, heard))
         (k, a, b), window = self.ends(), ()
+        if name in ("diff", "flows"):
+            later, heard = self.held[-1]
+            found = by(Session.diff, later) if name == "diff" else by(lambda session: later.flows(session))
+            return self.same(name, plain(found), SAID[name](voice, a, b, k, heard))
         if name not in ("edge", "either_way", "edge_count", "vertices", "kinds", "has_vertex",
                         "has_edge") and self.random.random() < 0.6:
             window = self.random.choice([None, *KINDS]), *sorted(self.random.choices(range(self.time + 3), k=2))
@@ -310,16 +331,18 @@ class Comparison(Case):
         """Each public call of a session that answers has its counterpart, so that none is left out."""
         questions = {it for it in vars(Session) if not it.startswith("_")} - NO_ANSWERS
         self.assertEqual(questions - set(SAID), {"get_edges"})  # (which is asked with each edge)
-        self.assertEqual(set(SAID) - questions, {"either_way", "edge_count", "frame", "to_csv", *BECOME})
+        self.assertEqual(set(SAID) - questions, {"among", "either_way", "edge_count", "frame", "to_csv", *BECOME})
 
     def test_a_planted_difference_is_found(self):
-        right = {it: getattr(Session, it) for it in ("levels", "edges", "in_edges", "successors", "diff")}
+        right = {it: getattr(Session, it) for it in ("levels", "edges", "in_edges", "successors", "diff", "degrees", "graph")}
         for name, planted in (
                 ("levels", lambda session, source, kind=None, since=0, until=LAST:
                     right["levels"](session, source, kind, since + 1, until)),
                 ("edges", lambda session, *given: right["edges"](session, *given)[1:]),
                 ("in_edges", lambda session, *given: right["in_edges"](session, *given)[:-1]),
                 ("successors", lambda session, source, *_: right["successors"](session, source)),
+                ("degrees", lambda session, *given, among=None: right["degrees"](session, *given, among=among and [*among][:1])),
+                ("graph", lambda session, kind=None, *given: right["graph"](session, None, *given)),
                 ("diff", lambda session, later, *given: right["diff"](later, session, *given))):
             with self.subTest(name), mock.patch.object(Session, name, planted):
                 self.assertTrue(any(self.play(seed, 4) for seed in range(12)))

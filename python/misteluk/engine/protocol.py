@@ -173,6 +173,12 @@ class Held(Protocol):
         """Lets the version go."""
 
 
+def must_have_kind(held: Held, kind: Optional[str]) -> None:
+    """Raises `Denied` for a kind that a version doesn't have."""
+    if kind is not None and kind not in held.kinds():
+        raise Denied("NoKind")
+
+
 class Engine(Protocol):
     """A running store. Its calls are made one at a time, and each of them again where an interrupt broke it off."""
 

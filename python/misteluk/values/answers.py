@@ -124,6 +124,23 @@ class Degree(Generic[W]):
     weight_out: W
 
 
+@dataclass(frozen=True)
+class Flow(Generic[W]):
+    """What became of a vertex's edges from one version to another: how many are gone, new or changed of those that go out of it
+    (`out`) and of those that come in (`into`), and by how much the weight grew that goes out and comes in, in the store's units.
+
+    >>> store.add("road", "kassel", "fulda", 45, time=5)
+    >>> done = store.commit()
+    >>> store.open().flows(session)["kassel"]
+    Flow(out=1, into=0, weight_out=45, weight_in=0)
+    """
+
+    out: int
+    into: int
+    weight_out: W
+    weight_in: W
+
+
 # Before Python 3.11 a named tuple has no parameters where it runs: those of an edge are for a type checker, which is told of them
 # in the same words.
 if TYPE_CHECKING:
@@ -164,8 +181,9 @@ class Neighbor(Generic[W, T]):
     into: Optional[Edge[W, T]]
 
 
-# The columns of degrees.
-OF_DEGREES = tuple(it.name for it in fields(Degree))
+# The columns of degrees and of flows, and what a row of these is.
+OF_DEGREES, OF_FLOWS = (tuple(it.name for it in fields(kind)) for kind in (Degree, Flow))
+ROWS: Dict[Tuple[str, ...], Any] = {OF_DEGREES: Degree, OF_FLOWS: Flow}
 
 
 class Values(NamedTuple):
@@ -227,7 +245,7 @@ class Answer(Mapping[str, V], Generic[V]):
     def _values(self, at: slice = slice(None)) -> Iterator[Any]:
         """The values of rows in these places, which has columns."""
         columns = [it.all_told(at) for it in self.columns.values()]
-        return map(Degree, *columns) if len(columns) > 1 else iter(columns[0])
+        return map(ROWS[tuple(self.columns)], *columns) if len(columns) > 1 else iter(columns[0])
 
     def _rows_from(self, first: int, end: int) -> List[Tuple[str, V]]:
         """The rows from one place to another; no dict is made for them."""
@@ -333,7 +351,8 @@ class Answer(Mapping[str, V], Generic[V]):
     def top(self, count: int = 10, by: Optional[str] = None) -> List[Tuple[str, V]]:
         """Returns the `count` rows with the greatest values, greatest first; equal ones in the order of the table.
 
-        `by` is a column: of degrees "out" (as without it), "into" or "weight_out"; other tables have one.
+        `by` is a column: of degrees and flows "out" (as without it), "into", "weight_out" or of flows "weight_in"; other tables
+        have one.
 
         >>> levels.top(1)
         [('bonn', 3)]
@@ -403,7 +422,7 @@ def shown_as_html(title: str, told: Mapping[str, object]) -> str:
     return f"<table><caption>{escape(title)}</caption>{rows}</table>"
 
 
-def degrees(out: array[int], into: array[int], weights: array[int], told: Any) -> Dict[str, Values]:
+def degrees(out: Sequence[int], into: Sequence[int], weights: Sequence[int], told: Any) -> Dict[str, Values]:
     """The columns of a table of degrees."""
     return dict(zip(OF_DEGREES, (Values(out), Values(into), Values(weights, told))))
 
