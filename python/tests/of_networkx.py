@@ -1,4 +1,4 @@
-"""What graphs of networkx give, by name: each public method, and algorithms of each sort; and such graphs by networkx's own calls."""
+"""What graphs of networkx give, by name: each public method, and algorithms of each sort; such graphs by networkx's own calls."""
 import json
 import random
 import warnings
@@ -90,7 +90,8 @@ ALGORITHMS = {
     "condensation": lambda g, a, b: networkx.condensation(g).size(), "core_number": lambda g, a, b: networkx.core_number(g),
     "k_core": lambda g, a, b: networkx.k_core(g, 3), "clustering": lambda g, a, b: networkx.clustering(g),
     "clustering weighted": lambda g, a, b: networkx.clustering(g, weight="weight"),
-    "triangles": lambda g, a, b: networkx.triangles(undirected(g)), "squares": lambda g, a, b: networkx.square_clustering(undirected(g)),
+    "triangles": lambda g, a, b: networkx.triangles(undirected(g)),
+    "squares": lambda g, a, b: networkx.square_clustering(undirected(g)),
     "transitivity": lambda g, a, b: networkx.transitivity(undirected(g)),
     "closeness": lambda g, a, b: networkx.closeness_centrality(g),
     "closeness weighted": lambda g, a, b: networkx.closeness_centrality(g, distance="weight"),
@@ -122,7 +123,8 @@ ALGORITHMS = {
     "cycles": lambda g, a, b: networkx.simple_cycles(g.subgraph(list(g)[:9])), "voterank": lambda g, a, b: networkx.voterank(g),
     "same": lambda g, a, b: networkx.is_isomorphic(g, g.copy()), "rows": lambda g, a, b: networkx.to_dict_of_dicts(g),
     "list": lambda g, a, b: networkx.to_edgelist(g), "lines": lambda g, a, b: networkx.generate_edgelist(g, data=["weight"]),
-    "json": lambda g, a, b: len(json.dumps(networkx.adjacency_data(g))), "cytoscape": lambda g, a, b: len(str(networkx.cytoscape_data(g))),
+    "json": lambda g, a, b: len(json.dumps(networkx.adjacency_data(g))),
+    "cytoscape": lambda g, a, b: len(str(networkx.cytoscape_data(g))),
     "graphml": lambda g, a, b: len("".join(networkx.generate_graphml(g))),
     "gml": lambda g, a, b: sorted(networkx.generate_gml(g)),
     "pagerank": lambda g, a, b: networkx.pagerank(g), "array": lambda g, a, b: networkx.to_numpy_array(g),

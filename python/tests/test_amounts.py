@@ -87,6 +87,21 @@ class Months(Case):
         june, may = months[6][0], months[5][0]
         self.assertEqual((june.degrees(since="2024-06-01")["ana"].weight_out, june.flows(may)["ana"].weight_out), (4200, 700))
 
+    def test_months_as_kinds_and_counts_as_one(self):
+        """What nobody held versions for: each month's transfers are a kind, and so are their numbers."""
+        rows = transfers(5)
+        store = self.store(units=Units(weight_scale=100, times="iso"))
+        kinds = [(source, target, amount, day, day[:7]) for day, source, target, amount in rows]
+        store.load(kinds + [(source, target, 1, day, "count") for day, source, target, _ in rows], by="add")
+        session = store.open()
+        for month in MONTHS:
+            kind, wanted = f"2024-{month:02}", by_hand([it for it in rows if int(it[0][5:7]) == month])
+            weights, degrees = session.weights_in(kind), session.degrees(kind)
+            self.assertEqual({it: (degrees[it].out, degrees[it].into, degrees[it].weight_out, weights[it]) for it in wanted}, {
+                it: (flow.out, flow.into, flow.weight_out, flow.weight_in) for it, flow in wanted.items()})
+        self.assertEqual({it: degree.weight_out for it, degree in session.degrees("count").items()}, {
+            it: sum(row[1] == it for row in rows) for it in session.vertices()})
+
     def test_what_was_removed_and_used_without_an_amount(self):
         """A removed edge goes with its weight; one with another time alone is changed, and so is one whose weight fell."""
         store = self.store("insert k a b 5 1", "insert k b c 7 2", "insert l c a 9 3", "insert l c b 2 4")
