@@ -9,7 +9,7 @@
 
 Where a task begins (`help(misteluk.Store.load)` has more, and so on):
 
-- Fill a store: `Store.load` takes a file, a pandas DataFrame, a networkx graph or rows, of which `Columns` says the columns;
+- Fill a store: `Store.load` takes a file, a pandas DataFrame, a graph or rows, of which `Columns` says the columns;
   `Store.follow` takes a file that grows. `insert`, `add`, `remove` and `expire` are applied by `Store.commit`.
 - Amounts with cents, and dates: `Store(units=Units(weight_scale=100, times="iso"))`. Without units both are whole numbers.
 - Ask: `Store.open` returns a `Session`, with `degrees`, `weights_in`, `out_edges`, `in_edges`, `neighborhood`, `path`,

@@ -132,6 +132,124 @@ class Graphs(Case):
         return [(at, *told) for at, edge in enumerate(graph.edges, 1) for names, told in wanted.items() if names[0] in edge]
 
 
+@unittest.skipUnless(optional("igraph"), "igraph is not there")
+class OfIgraph(Case):
+    def test_igraph(self):
+        """Names are attributes, or numbers; kinds, weights and times are attributes too; an undirected edge is one either way."""
+        import igraph
+        graph = igraph.Graph([(0, 1), (2, 1), (0, 0)], directed=True)
+        self.assertEqual([it[1:] for it in feed_of(graph).rows], [
+            ("link", "0", "1", "1", "0"), ("link", "2", "1", "1", "0"), ("link", "0", "0", "1", "0")])
+        graph.vs["name"], graph.es["weight"], graph.es["kind"] = ["a", "Иванов Пётр", 7], [2.5, 3, -1], ["k", "l", "k"]
+        graph.es["day"] = ["2024-05-01", "2024-05-02", "2024-05-03"]
+        self.assertEqual(list(feed_of(graph, columns=Columns(time="day")).rows), [
+            (1, "k", "a", "Иванов Пётр", "2.5", "2024-05-01"), (2, "l", "7", "Иванов Пётр", "3", "2024-05-02"),
+            (3, "k", "a", "a", "-1", "2024-05-03")])
+        both = igraph.Graph([(0, 1), (2, 2)])
+        self.assertEqual([it[2:4] for it in feed_of(both).rows], [("0", "1"), ("1", "0"), ("2", "2")])
+        self.assertEqual([it[2:4] for it in feed_of(both, both_ways=False).rows], [("0", "1"), ("2", "2")])
+
+    def test_what_is_refused(self):
+        import igraph
+        graph = igraph.Graph([(0, 1), (1, 2)], directed=True)
+        graph["name"], graph.vs["name"] = "g", ["a", "b", "a"]
+        self.refused(errors.FeedFault, "graph g: two vertices have one name", lambda: feed_of(graph))
+        graph.vs["name"] = ["a", b"b", "c"]
+        self.refused(errors.FeedFault, "graph g:1: b'b': bytes are no text", lambda: feed_of(graph))
+        graph.vs["name"] = ["a", None, "c"]
+        graph.es[0]["weight"] = 5  # (the other one has none)
+        with self.assertRaises(misteluk.BadRows) as told:
+            self.store().load(graph, by="set")
+        found = [(it.place.line, it.field) for it in told.exception.faults]
+        self.assertEqual(found, [(1, "target"), (2, "source"), (2, "weight")])
+        with self.assertWarnsRegex(errors.LeftOut, "2 nodes of the graph, as 'c', have no edge"):
+            feed_of(igraph.Graph(4, [(0, 1)], vertex_attrs={"name": list("abcd")}))
+
+    def test_a_graph_comes_back(self):
+        """With each edge's recent time; also by way of a GraphML file, which has dates if they are texts."""
+        import igraph
+        units = Units(weight_scale=100, times="iso")
+        store = self.store(units=units)
+        store.add("road", "a & b", "Иванов", "2.50", "2024-03-04")
+        store.add("rail", "Иванов", "a & b", 7, "2024-03-05T12:00:00.25+01:00")
+        store.commit()
+        wanted, graph = list(store.open().edges()), store.open().edges().to_igraph()
+        for name in ("weight", "first", "recent"):
+            graph.es[f"{name}_as_text"] = list(map(str, graph.es[name]))
+        graph.write_graphml(str(self.room / "graph.graphml"))
+        read = igraph.Graph.Read_GraphML(str(self.room / "graph.graphml"))
+        self.assertEqual(set(read.es.attributes()) - {"weight"}, {"kind", "weight_as_text", "first_as_text", "recent_as_text"})
+        for given, columns in ((graph, Columns()), (read, Columns(time="recent_as_text")), (read, Columns(
+                weight="weight_as_text", time="recent_as_text"))):
+            copy = self.store(units=units)
+            copy.load(given, by="set", columns=columns)
+            self.assertEqual(list(copy.open().edges()), wanted)
+
+
+@unittest.skipUnless(optional("scipy"), "scipy is not there")
+class Matrices(Case):
+    def test_scipy(self):
+        """An entry is an edge of numbers from 0, with its weight, also one that is 0; entries in one place are summed."""
+        import numpy
+        from scipy import sparse
+        entries = [5, 7, -2, 0, 1], ([0, 2, 2, 1, 2], [1, 0, 0, 1, 2])
+        wanted = [("0", "1", 5), ("2", "0", 5), ("1", "1", 0), ("2", "2", 1)]
+        for form in ("coo", "csr", "csc"):
+            matrix = sparse.coo_matrix(entries, shape=(4, 4)).asformat(form)
+            for by in ("set", "add"):
+                store = self.store()
+                store.load(matrix, by=by)
+                found = [(source, target, edge.weight) for _, source, target, edge in store.open().edges()]
+                self.assertEqual(sorted(found), sorted(wanted), form)
+        twice = sparse.csr_matrix(([5, 7], [1, 1], [0, 2, 2]), shape=(2, 2))
+        self.assertEqual([it[2:5] for it in feed_of(twice).rows], [("0", "1", "12")])
+        self.assertEqual((len(sparse.coo_matrix(entries).data), list(twice.data)), (5, [5, 7]))  # (they are as they were)
+        for values, weights in (([0.25, 1.5], ["0.25", "1.5"]), (numpy.array([True, True]), ["1", "1"])):
+            matrix = sparse.csr_matrix((values, ([0, 1], [1, 0])), shape=(2, 2))
+            self.assertEqual([it[1:5] for it in feed_of(matrix, columns=Columns(default_kind="k")).rows], [
+                ("k", "0", "1", weights[0]), ("k", "1", "0", weights[1])])
+
+    def test_it_comes_back(self):
+        session = self.store("insert k 0 1 5 1", "insert k 1 2 -7 2", "insert k 2 0 9 3").open()
+        store = self.store()
+        store.load(session.edges().to_scipy(), by="set")
+        self.assertEqual(sorted((ends, edge.weight) for *ends, edge in store.open().edges()), [
+            (["link", "0", "1"], 5), (["link", "1", "2"], -7), (["link", "2", "0"], 9)])
+
+    def test_what_is_refused(self):
+        from scipy import sparse
+        self.refused(errors.FeedFault, "matrix: it has 2 rows and 3 columns, which aren't the same vertices",
+                     lambda: feed_of(sparse.csr_matrix((2, 3))))
+        self.refused(ValueError, "a matrix has no columns with names",
+                     lambda: feed_of(sparse.eye(2), columns=Columns(weight="w")))
+
+
+class NoTexts(Case):
+    def test_tables_that_are_no_texts(self):
+        """By their first bytes, which no text has: the word says what reads them. A text that looks like it is read."""
+        import gzip
+        import zipfile
+        with zipfile.ZipFile(self.room / "book.xlsx", "w") as book:
+            book.writestr("xl/workbook.xml", "<workbook/>")
+        begins = {"a.parquet": b"PAR1\x15\x04\x15", "b.csv": b"PAR1\x15\x00", "c.feather": b"ARROW1\0\0\xff"}
+        for name, begin in begins.items():
+            (self.room / name).write_bytes(begin + b"\0" * 50)
+        with gzip.open(self.room / "d.csv.gz", "wb") as packed:
+            packed.write(b"PAR1\x15\x04")
+        parquet = "a Parquet file", "read_parquet"
+        for name, (what, reader) in {"a.parquet": parquet, "b.csv": parquet, "c.feather": ("a Feather file", "read_feather"),
+                                     "d.csv.gz": parquet,
+                                     "book.xlsx": ("an Excel file or another archive", "read_excel")}.items():
+            path = str(self.room / name)
+            self.refused(errors.FeedFault, f"{path}: this is {what}, and no text: read it with pandas.{reader}",
+                         lambda: self.store().load(path, by="set"))
+        for text in ("PAR1,PK\na,b\n", "PK,ARROW1\na,b\n", ""):
+            store = self.store()
+            columns = Columns(*text.split()[0].split(",")) if text else Columns(1, 2)
+            store.load(self.file("text.csv", text), by="set", columns=columns)
+            self.assertEqual(store.open().vertices(), ("a", "b") if text else ())
+
+
 @unittest.skipUnless(optional("pandas"), "pandas is not there")
 class Frames(Case):
     def test_pandas(self):

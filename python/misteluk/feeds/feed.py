@@ -187,9 +187,14 @@ def codec_of(encoding: str) -> str:
     return "utf-8-sig" if name == "utf-8" else name
 
 
+# What files begin with that are no text, and what reads them.
+NO_TEXTS = {b"PAR1\x15": ("a Parquet file", "pandas.read_parquet"), b"ARROW1\0\0": ("a Feather file", "pandas.read_feather"),
+            b"PK\3\4": ("an Excel file or another archive", "pandas.read_excel")}
+
+
 def open_text(path: Path, encoding: str = "utf-8") -> IO[str]:
     """The file as text, unpacked where its name ends in .gz; `-` is standard input. Bytes that aren't of the encoding are
-    kept, so that the names they stand in are refused."""
+    kept, so that the names they stand in are refused. Raises `FeedFault` for a table that is no text."""
     codec = codec_of(encoding)
     raw: Any
     if path == STANDARD_INPUT:
@@ -197,7 +202,19 @@ def open_text(path: Path, encoding: str = "utf-8") -> IO[str]:
     else:
         import gzip
         raw = gzip.open(path, "rb") if os.fspath(path).endswith(".gz") else open(path, "rb")
-    return io.TextIOWrapper(raw, encoding=codec, errors="surrogateescape", newline="")
+    text = io.TextIOWrapper(raw, encoding=codec, errors="surrogateescape", newline="")
+    try:
+        _must_be_text(feed_name(path), raw.peek(1))
+    except BaseException:
+        text.close()
+        raise
+    return text
+
+
+def _must_be_text(name: str, begin: bytes) -> None:
+    for it, (what, reader) in NO_TEXTS.items():
+        if begin.startswith(it):
+            raise FeedFault(f"{name}: this is {what}, and no text: read it with {reader}, and load the frame")
 
 
 def snap(path: Path, *, kind: str = USUAL_KIND, third: Optional[str] = None, encoding: str = "utf-8") -> Feed:

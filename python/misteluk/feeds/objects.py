@@ -1,4 +1,4 @@
-"""Graphs of networkx, pandas frames, columns and rows of Python as feeds."""
+"""Graphs of networkx and igraph, sparse matrices, pandas frames, columns and rows of Python as feeds."""
 from __future__ import annotations
 
 import reprlib
@@ -104,15 +104,53 @@ def from_networkx(graph: Any, *, kind: str = USUAL_KIND, weight: str = "weight",
     if len(set(known)) < len(known):
         raise FeedFault("two nodes of the graph have one name: rename them (networkx.relabel_nodes)")
     _warn_of_idle([str(it) for it, degree in graph.degree() if not degree])
+    edges = ((names[source], names[target], told) for source, target, told in graph.edges(data=True))
+    return Feed(name, _rows_of_graph(name, edges, both_ways and not graph.is_directed(), kind, (kind_of, weight, time)))
 
-    def rows() -> Iterator[Row]:
-        for at, (source, target, told) in enumerate(graph.edges(data=True), 1):
-            usual = told["recent"] if time == "time" and "first" in told and "recent" in told else 0
-            of_kind, *rest = texts_of((told.get(kind_of, kind), told.get(weight, 1), told.get(time, usual)), name, at)
-            yield (at, of_kind, names[source], names[target], rest[0], rest[1])
-            if both_ways and not graph.is_directed() and source != target:
-                yield (at, of_kind, names[target], names[source], rest[0], rest[1])
-    return Feed(name, rows())
+
+def _rows_of_graph(feed: str, edges: Iterable[Tuple[str, str, Mapping[str, Any]]], both_ways: bool, kind: str,
+                   wanted: Tuple[str, str, str]) -> Iterator[Row]:
+    """The rows of a graph's edges, of which each has its ends and attributes: those that are wanted are its kind, weight and
+    time."""
+    kind_of, weight, time = wanted
+    for at, (source, target, told) in enumerate(edges, 1):
+        usual = told["recent"] if time == "time" and "first" in told and "recent" in told else 0
+        of_kind, *rest = texts_of((told.get(kind_of, kind), told.get(weight, 1), told.get(time, usual)), feed, at)
+        yield (at, of_kind, source, target, rest[0], rest[1])
+        if both_ways and source != target:
+            yield (at, of_kind, target, source, rest[0], rest[1])
+
+
+def from_igraph(graph: Any, *, kind: str = USUAL_KIND, weight: str = "weight", time: str = "time", kind_of: str = "kind",
+                both_ways: bool = True) -> Feed:
+    """An igraph graph, as `from_networkx` takes one of networkx. A vertex's name is its attribute `name`, or its number where
+    vertices have none."""
+    name = f"graph {graph['name'] if 'name' in graph.attributes() else ''}".strip()
+    given = graph.vs["name"] if "name" in graph.vs.attributes() else range(graph.vcount())
+    names = texts_of(list(given), name, 0)
+    known = [it for it in names if it]
+    if len(set(known)) < len(known):
+        raise FeedFault(f"{name}: two vertices have one name: give them others (graph.vs['name'])")
+    _warn_of_idle([it for it, degree in zip(names, graph.degree()) if not degree])
+    edges = ((names[it.source], names[it.target], it.attributes()) for it in graph.es)
+    return Feed(name, _rows_of_graph(name, edges, both_ways and not graph.is_directed(), kind, (kind_of, weight, time)))
+
+
+def from_matrix(matrix: Any, columns: Columns = Columns()) -> Feed:
+    """A sparse matrix of scipy: an entry in row i and column j is an edge from i to j, as numbers from 0. Entries in one place
+    are summed, as scipy does."""
+    height, width = matrix.shape
+    if height != width:
+        raise FeedFault(f"matrix: it has {height} rows and {width} columns, which aren't the same vertices: give its entries as "
+                        "columns, {'source': .., 'target': .., 'weight': ..}, with names")
+    if not columns._are_unsaid:
+        raise ValueError("a matrix has no columns with names: of Columns it takes default_kind and default_time alone")
+    rows = matrix.tocsr(copy=True)
+    rows.sum_duplicates()
+    entries = rows.tocoo()
+    weights = entries.data.astype("int64") if entries.data.dtype == bool else entries.data
+    table = {"source": entries.row, "target": entries.col, "weight": weights}
+    return from_columns(table, replace(columns, weight="weight"))._replace(name="matrix")
 
 
 def _warn_of_idle(names: Sequence[str]) -> None:

@@ -72,7 +72,7 @@ class ReadAs:
         return Reading(self.encoding if is_file else None, self.decimal if is_file else None, units, self.dates, is_headless)
 
     def feed(self, data: Any) -> Feed:
-        """The feed of a file's path (`-` is standard input), a networkx graph, a pandas frame, columns by name, rows, or a feed.
+        """The feed of a file's path (`-` is standard input), a graph, a sparse matrix, a frame, columns by name, rows, or a feed.
 
         Raises `ValueError` for options that there aren't, `FeedFault` where a file or graph is of another form, and `OSError`."""
         notation = self.notation
@@ -107,17 +107,21 @@ def reads(call: F) -> F:
 
 
 def _of_object(data: Any, columns: Columns, both_ways: bool) -> Feed:
-    from .objects import from_columns, from_networkx, from_pandas, from_rows
-    if hasattr(data, "edges") and hasattr(data, "is_directed"):
-        return from_networkx(data, kind=columns.default_kind, both_ways=both_ways, weight=str(columns.weight or "weight"),
-                             time=str(columns.time or "time"), kind_of=str(columns.kind or "kind"))
+    from .objects import from_columns, from_igraph, from_matrix, from_networkx, from_pandas, from_rows
+    if hasattr(data, "is_directed"):
+        from_graph = from_networkx if hasattr(data, "edges") else from_igraph
+        return from_graph(data, kind=columns.default_kind, both_ways=both_ways, weight=str(columns.weight or "weight"),
+                          time=str(columns.time or "time"), kind_of=str(columns.kind or "kind"))
+    if hasattr(data, "tocoo"):
+        return from_matrix(data, columns)
     if hasattr(data, "itertuples"):
         return from_pandas(data, columns)
     if isinstance(data, Mapping):
         return from_columns(data, columns)
     if isinstance(data, Iterable) and not isinstance(data, (bytes, bytearray)):
         return from_rows(data, columns)
-    raise TypeError(f"a feed is a file's path, a graph, a frame, columns by name or rows, and not {type(data).__name__}")
+    raise TypeError("a feed is a file's path, a graph, a sparse matrix, a frame, columns by name or rows, and not "
+                    f"{type(data).__name__}")
 
 
 def form_of(path: Path, encoding: str) -> str:

@@ -241,10 +241,13 @@ class Edges(Sequence["Told[W, T]"], Generic[W, T]):
         """Returns the edges as a directed igraph graph. `about` are attributes of the graph.
 
         Vertices are numbered as in the version, and have `name`. Edges have the attributes `kind`, `weight`, `first` and
-        `recent`.
+        `recent`. A GraphML file that it writes has texts and floats: it leaves dates out, unless they are made texts before,
+        as by `graph.es["recent"] = list(map(str, graph.es["recent"]))`.
 
-        >>> session.edges().to_igraph().es["kind"].count("road")  # needs igraph
+        >>> graph = session.edges().to_igraph()  # needs igraph
+        >>> graph.es["kind"].count("road")
         3
+        >>> graph.write_graphml("roads.graphml")
         """
         igraph = needed("igraph", "a graph")
         graph = igraph.Graph(len(self.names), list(zip(self.source, self.target)), directed=True)
