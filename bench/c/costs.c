@@ -3,7 +3,7 @@
  * of the C library, so that the toolchain's own compiler makes it, and its share of a figure is the same everywhere. */
 #include <misteluk.h>
 
-enum { VERTICES = 20000, NAME = 6, FEW = 64, HELD = 15, BLOCKS = 1 << 17 };
+enum { VERTICES = 20000, NAME = 6, FEW = 64, MANY = 4096, RECORD = 64, HELD = 15, BLOCKS = 1 << 17 };
 
 struct in_use { size_t arena, free_chunks, fast_chunks, maps, map_bytes, unused, fast_bytes, bytes, free_bytes, top; };
 struct script { const char *name; void (*prepare)(void), (*turn)(uint32_t); uint32_t turns, repeats; };
@@ -20,7 +20,7 @@ static misteluk_desk desk;
 static misteluk_batch batch;
 static misteluk_version versions[HELD];
 static misteluk_hold holds[HELD];
-static char text[VERTICES * NAME];
+static char text[VERTICES * NAME], lines[MANY * RECORD];
 static uint64_t ends[VERTICES], times[VERTICES], firsts[VERTICES], recents[VERTICES], done, most;
 static uint32_t kinds[VERTICES], sources[VERTICES], targets[VERTICES], outgoing[VERTICES], incoming[VERTICES];
 static int64_t weights[VERTICES], sums[VERTICES];
@@ -75,12 +75,17 @@ static void insert_columns(void)
         weights, VERTICES, times, VERTICES, &counts, &done));
 }
 
-static uint32_t append_columns(uint32_t kind, uint32_t from, uint32_t count)
+static misteluk_columns columns_of(uint32_t kind, uint32_t from, uint32_t count)
 {
     done = 0;
     kinds[from] = kind;
-    misteluk_columns columns = {sizeof columns, "k", 1, &kind_end, 1, text, sizeof text, ends, VERTICES, additions + from, count,
-        kinds + from, count, sources + from, count, targets + from, count, weights + from, count, times + from, count};
+    return (misteluk_columns){sizeof(misteluk_columns), "k", 1, &kind_end, 1, text, sizeof text, ends, VERTICES, additions + from,
+        count, kinds + from, count, sources + from, count, targets + from, count, weights + from, count, times + from, count};
+}
+
+static uint32_t append_columns(uint32_t kind, uint32_t from, uint32_t count)
+{
+    misteluk_columns columns = columns_of(kind, from, count);
     return misteluk_batch_columns(&batch, &columns, MISTELUK_MOST_OPERATIONS, &done);
 }
 
@@ -124,12 +129,34 @@ static void prepare_version(void)
     hold(0);
 }
 
+static void prepare_walks(void)
+{
+    prepare_version();
+    must(misteluk_version_index(&versions[0]));
+}
+
+static void prepare_records(void)
+{
+    prepare_tree();
+    must(append_columns(0, 0, MANY));
+}
+
 /* A turn of each script. */
 
 static void into_a_desk(uint32_t turn)
 {
     (void)turn;
     insert_columns();
+    watch();
+    misteluk_desk_free(&desk);
+}
+
+static void opened_with(uint32_t turn)
+{
+    misteluk_columns columns = columns_of(0, 0, VERTICES);
+    (void)turn;
+    must(misteluk_desk_new_within(1, &limits, BLOCKS, &desk));
+    must(misteluk_desk_open_columns(&desk, &columns, &done));
     watch();
     misteluk_desk_free(&desk);
 }
@@ -201,6 +228,39 @@ static void tables(uint32_t turn)
     must(misteluk_version_cores(&versions[0], &every, outgoing, VERTICES));
 }
 
+/* What is near a vertex, the way to it from the root, and the edges that lead to it. */
+static void walks(uint32_t turn)
+{
+    uint32_t vertex = turn * 7919 % VERTICES;
+    must(misteluk_version_within(&versions[0], &every, MISTELUK_EITHER, &vertex, 1, 4, outgoing, VERTICES, incoming, VERTICES,
+        &done));
+    must(misteluk_version_path(&versions[0], &every, 0, vertex, outgoing, VERTICES, &done));
+    must(misteluk_version_in_edges(&versions[0], &every, vertex, &into, &done));
+}
+
+/* An index of a copy that has none yet. */
+static void indexes(uint32_t turn)
+{
+    (void)turn;
+    hold(0);
+    must(misteluk_version_index(&versions[0]));
+    watch();
+    release(0);
+}
+
+static void searches(uint32_t turn)
+{
+    uint32_t from = 0;
+    must(misteluk_version_weights_in(&versions[0], &every, sums, VERTICES));
+    must(misteluk_version_names_like(&versions[0], name_of(turn % VERTICES) + 2, NAME - 2, &from, outgoing, VERTICES, &done));
+}
+
+static void records(uint32_t turn)
+{
+    (void)turn;
+    must(misteluk_batch_records(&batch, lines, sizeof lines, &done));
+}
+
 static void edges(uint32_t turn)
 {
     uint32_t source = 0;
@@ -227,6 +287,7 @@ static void refusals(uint32_t turn)
 
 static const struct script scripts[] = {
     {"columns into a desk", prepare_none, into_a_desk, 1, 40},
+    {"a desk opened with columns", prepare_none, opened_with, 1, 40},
     {"columns of a batch", prepare_tree, of_a_batch, 300, 5000},
     {"columns one by one", prepare_tree, one_by_one, 8000, 80000},
     {"commits", prepare_tree, commit, 2000, 20000},
@@ -236,6 +297,10 @@ static const struct script scripts[] = {
     {"a large version opened", prepare_tree, large_version, 100, 2000},
     {"tables", prepare_version, tables, 2, 200},
     {"all edges", prepare_version, edges, 20, 500},
+    {"walks", prepare_walks, walks, 30, 400},
+    {"indexes", prepare_tree, indexes, 6, 100},
+    {"weights in and names like", prepare_version, searches, 6, 200},
+    {"records", prepare_records, records, 20, 400},
     {"rebases", prepare_tree, rebase, 20, 1000},
     {"refusals", prepare_tree, refusals, 500, 20000},
 };
