@@ -12,7 +12,7 @@ from contextlib import redirect_stderr
 from unittest import mock
 
 from interrupting import handler
-from support import Case, as_soon_as
+from support import Case
 
 import misteluk
 from misteluk import Units, errors
@@ -71,12 +71,13 @@ class Made(unittest.TestCase):
         self.assertEqual(made.make(lambda: 6), 6)
 
     def test_its_thread_ends_with_it(self):
-        before = _thread._count()
-        made = calls.Calls()
+        ended, real = threading.Event(), calls._work
+        with mock.patch.object(calls, "_work", lambda queue: (real(queue), ended.set())):
+            made = calls.Calls()
         made.make(lambda: None)
-        self.assertEqual(_thread._count(), before + 1)
+        self.assertFalse(ended.is_set())
         del made
-        as_soon_as(lambda: _thread._count() == before)
+        self.assertTrue(ended.wait(60))
         calls.Calls.__new__(calls.Calls).__del__()  # (one that was never begun)
 
 
@@ -114,11 +115,14 @@ class Sent(Case):
         self.outbox.append(Lines(3, "a,b", ["x\n"]))
         self.outbox.append(Lines(4, "a,b", ["y\n", "z\n"]))
         self.outbox.skip(self.following(last_bad=Rejected(4, "why", "y")))
+        self.outbox.append(Lines(9, "a,b", ["w\n"]))
+        self.outbox.skip(self.following())
         self.outbox.skip(self.following())
         self.outbox.leave()
         self.outbox.end(word="W", text="t")
         self.assertEqual(self.received(), [
-            (self.head(1, [4, "why", "y"], [3, "a,b", ["x\n", "y\n", "z\n"]]), []), (self.head(9), []), ({"left": True}, []),
+            (self.head(1, [4, "why", "y"], [3, "a,b", ["x\n", "y\n", "z\n"]]), []),
+            (self.head(9, None, [9, "a,b", ["w\n"]]), []), (self.head(9), []), ({"left": True}, []),
             ({"word": "W", "text": "t"}, [])])
 
     @staticmethod

@@ -1,4 +1,4 @@
-"""How long others wait while a server reads a long body: run by hand, since a busy machine delays each of them too.
+"""How long others wait while a server reads a long body. test_serve_posts.py asks of some; by hand, of all:
 
     python3 waiting.py [TRIES [PART OF A NAME]]
 
@@ -9,6 +9,7 @@ what another connection waited, with the body and without.
 from __future__ import annotations
 
 import http.client
+import itertools
 import json
 import os
 import pathlib
@@ -22,11 +23,13 @@ SIZE = 8 << 20
 CSV, JSON = "text/csv", "application/json"
 ROWS, BATCH, ASK = "/v1/rows", "/v1/feeder/{seat}/batches/{number}", "/v1/sessions/{session}/ask"
 MOST = 0.050
+# What others ask.
+QUESTIONS = "/v1/stat", "/v1/edge?kind=k&source=a&target=b"
 
 
-def filled(begin: str, part: str, end: str) -> bytes:
+def filled(begin: str, part: str, end: str, size: int = SIZE) -> bytes:
     """A text of about this size, of the same parts."""
-    return (begin + part * ((SIZE - len(begin) - len(end)) // len(part)) + end).encode("utf-8", "surrogatepass")
+    return (begin + part * ((size - len(begin) - len(end)) // len(part)) + end).encode("utf-8")
 
 
 def numbered(part: str) -> bytes:
@@ -140,6 +143,10 @@ class Asker:
         self.send(ROWS, b"add,k,a,b,1,1\n", CSV)
         self.number = 0
 
+    def end(self) -> None:
+        self.server.kill()
+        self.server.communicate()
+
     def _line(self) -> str:
         assert self.server.stdout is not None
         return self.server.stdout.readline()
@@ -166,11 +173,13 @@ class Asker:
         begun = time.monotonic()
         thread.start()
         link, waits = http.client.HTTPConnection("127.0.0.1", self.port, timeout=600), []
-        while thread.is_alive():
+        for question in itertools.cycle(QUESTIONS):
             asked = time.monotonic()
-            link.request("GET", "/v1/stat")
-            link.getresponse().read()
+            link.request("GET", question)
+            assert link.getresponse().read()
             waits.append(time.monotonic() - asked)
+            if not thread.is_alive():
+                break
             time.sleep(0.005)
         link.close()
         return Wait(max(waits), self.step(), found[0], time.monotonic() - begun)
@@ -209,7 +218,7 @@ def main(tries: int = 3, wanted: str = "") -> int:
         late += step > MOST
         print(f"{name:28} {1e3 * wait:9.1f} ms {1e3 * alone.wait:6.1f} ms {1e3 * step:6.1f} ms  {found[0].status}"
               f" {min(it.spent for it in found):6.1f} s{'  <- longer than 50 ms' if step > MOST else ''}", flush=True)
-    asker.server.kill()
+    asker.end()
     print(f"{late} of them have a step that is longer than 50 ms")
     return int(late > 0)
 
