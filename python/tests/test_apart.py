@@ -111,7 +111,15 @@ class Kept(Case):
         for at, left in ((9, 7), (15, 1), (16, 0), (20, 0)):
             os.lseek(found._file, at, os.SEEK_SET)
             self.assertEqual(found.behind, left)
-        self.assertIsNone(self.apart(self.pipe()).behind)
+
+    def test_a_pipe(self):
+        """This process keeps no end of it, so that its writer is told where nobody reads any more. How much is left nobody
+        knows."""
+        file = self.pipe()
+        found = self.apart(file)
+        mine = [it for it in os.listdir("/proc/self/fd") if os.path.exists(f"/proc/self/fd/{it}")
+                and os.path.samestat(os.stat(f"/proc/self/fd/{it}"), os.fstat(file.fileno())) and int(it) != file.fileno()]
+        self.assertEqual((len(mine), found._file, found.behind), (1, -1, None))  # (that which is written to)
 
     def test_whether_another_file_took_its_place(self):
         found = self.apart()
