@@ -70,9 +70,6 @@ class Documents(Case):
             count += 1
         return count
 
-    def test_the_tutorial_s_commands(self):
-        self.assertEqual(self.run_commands(TUTORIAL), 8)
-
     def conversations(self, path) -> int:
         """Runs what stands behind >>>, and returns how many such lines there were."""
         here = os.getcwd()
@@ -88,26 +85,21 @@ class Documents(Case):
         self.assertEqual(failed, 0, told.getvalue())
         return tried
 
-    def test_the_conversations(self):
-        self.assertGreater(self.conversations(TUTORIAL), 25)
-        self.assertGreater(self.conversations(TOP / "README.md"), 1)
-        self.assertGreater(self.conversations(TOP / "docs/PYTHON.md"), 30)
-
-    def test_the_commands_of_other_pages(self):
-        self.assertGreater(self.run_commands(TOP / "docs/PYTHON.md"), 0)
-        self.assertEqual(self.run_commands(TOP / "README.md"), 1)
-        self.assertEqual(self.run_commands(TOP / "docs/PROGRAM.md"), 1)
-
-    @unittest.skipUnless((TOP / ".git").exists(), "this is no clone")
-    def test_a_clone_stays_clean(self):
-        """Who types what the pages show at a clone's top leaves files that git passes over: the gate notes what passed of a clean
-        clone alone."""
+    def test_what_the_pages_show(self):
+        """Commands and conversations. Who types them at a clone's top leaves files that git passes over: the gate notes what
+        passed of a clean clone alone."""
         before = set(os.listdir(self.room))
-        for it in ("README.md", "docs/TUTORIAL.md", "docs/PYTHON.md", "docs/PROGRAM.md"):
-            self.run_commands(TOP / it)
-            self.conversations(TOP / it)
+        commands = [self.run_commands(TOP / it) for it in ("docs/TUTORIAL.md", "docs/PYTHON.md", "docs/PROGRAM.md", "README.md")]
+        self.assertEqual(commands, [8, 1, 1, 1])
+        for page, most in (("docs/TUTORIAL.md", 25), ("docs/PYTHON.md", 30), ("README.md", 1)):
+            self.assertGreater(self.conversations(TOP / page), most, page)
         left = sorted(set(os.listdir(self.room)) - before)
         self.assertTrue({"funnel.html", "edges.csv", "roads.db", "graph.db", "bank.csv", "bank.csv.gz"} <= set(left), left)
+        if (TOP / ".git").exists():
+            self.are_passed_over(left)
+
+    def are_passed_over(self, left):
+        """What git says of files at a clone's top."""
         passed_over = subprocess.run(["git", "check-ignore", "--no-index", *left], cwd=TOP, stdout=subprocess.PIPE, text=True)
         self.assertEqual(passed_over.stdout.split(), left)
         others = subprocess.run(["git", "check-ignore", "--no-index", "examples/bank.csv", "new.csv"], cwd=TOP)
