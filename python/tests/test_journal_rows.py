@@ -285,6 +285,12 @@ class Engines(unittest.TestCase):
         state.version = 3
         self.assertRaisesRegex(JournalFault, "the first has version 2 only, and had 3", copy.take, Added([], 2, Settings()))
         self.assertEqual(copy.settings, settings)
+        for versions, newest, lacks in (((), 3, False), ((), 4, True), ((4,), 4, False), ((4, 5), 9, False), ((5,), 5, True)):
+            self.assertEqual(copy.lacks(Added([mock.Mock(version=it) for it in versions], newest, settings)), lacks, versions)
+        for version in (2, 3):  # (nothing earlier takes its place, nor the same)
+            other = State(make_engine(Limits(), None, 1, False), version)
+            self.assertRaisesRegex(JournalFault, f"version 4 is missing, .* begins with {version}", copy.become, other, settings)
+            self.assertEqual((other.engine.has_ended, copy.state is state), (True, True))
 
 
 if __name__ == "__main__":

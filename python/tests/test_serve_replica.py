@@ -11,7 +11,7 @@ from serving import ServeCase
 from support import Case
 
 from misteluk import Columns, connect, Store, StoreError, Units
-from misteluk.errors import NotWritten, ReadOnly
+from misteluk.errors import JournalFault, NotWritten, ReadOnly
 from misteluk.journal.replica import Added, FirstFile
 from misteluk.journal.tables import Settings
 from misteluk.serve import log
@@ -43,8 +43,9 @@ class BySteps(Case):
         """What came is applied and told; since when the first is ahead is known as long as it is."""
         it, board = self.replica(), mock.Mock()
         for rows, newest, version, settings, is_more, ahead in (
-                ([], 5, 5, Settings(), False, 0.0), ([mock.Mock(at=90_000_000)], 7, 6, Settings(), True, 90.0),
-                ([mock.Mock(at=95_000_000)], 7, 7, Settings(), True, 0.0), ([], 7, 7, Settings(weight_scale=100), False, 0.0)):
+                ([], 5, 5, Settings(), False, 0.0), ([mock.Mock(version=6, at=90_000_000)], 7, 6, Settings(), True, 90.0),
+                ([mock.Mock(version=7, at=95_000_000)], 7, 7, Settings(), True, 0.0),
+                ([], 7, 7, Settings(weight_scale=100), False, 0.0)):
             def take(added):
                 it._copy.state.version, it._copy.settings = version, added.settings
             it.first.added.return_value = Added(rows, newest, settings)
@@ -115,6 +116,56 @@ class Replicas(ServeCase):
         with Store(self.path) as store:  # (the first is begun again)
             self.fed(store, 61, 70)
             self.comes_to(replica, 70)
+
+    def falls_behind(self, store, name, advance=lambda: None):
+        """A replica of what a store has takes its next step behind batches that only bases of the store have by then. It begins
+        anew with that, goes on, and its client has what it held."""
+        replica = Replica(name)
+        self.addCleanup(replica.close)
+        self.board = Board(replica.store, ServerLimits())
+        self.addCleanup(self.board.close)
+        replica._step(self.board)
+        lease = self.board.lease()
+        for first, last in ((6, 35), (36, 43)):
+            self.fed(store, first, last)
+            store.file.compact(history=0)
+        self.assertGreater(store.file.kept.oldest, 5)
+        seats = replica.store._engine.seats
+        for last in (43, 45):
+            self.fed(store, store.stat().version + 1, last)
+            advance()
+            for _ in range(60):
+                if self.board.stat.version < last:  # (a server waits where there is nothing more)
+                    replica._step(self.board)
+            self.assertEqual((told(replica.store), self.board.stat.version), (Model().upto(last).told(), last))
+            self.assertEqual((replica.told(), replica.store.kinds), ({"behind": 0, "seconds": 0.0}, Model().upto(last).told()[3]))
+            self.assertEqual(replica.store._engine.seats, seats)
+            with self.board.lent(lease.name) as held:
+                self.assertEqual((held.version, len(held.edges())), (5, len(Model().upto(5).edges)))
+
+    def test_one_that_fell_behind_a_file(self):
+        with Store(self.path) as store, mock.patch("misteluk.journal.replica.MOST_BATCHES", 10):
+            self.fed(store, 1, 5)
+            self.falls_behind(store, self.path)
+
+    def test_one_that_fell_behind_a_server(self):
+        with Store(self.path, seats=16) as store, mock.patch("misteluk.journal.replica.MOST_BATCHES", 10), \
+                Server(store, "127.0.0.1:0") as server:
+            self.fed(store, 1, 5)
+            server.board.advance()
+            self.falls_behind(store, server.url, server.board.advance)
+
+    def test_a_batch_that_is_missing(self):
+        """Nothing takes its place where no base is later: it says so, and what it has stays."""
+        with Store(self.path) as store:
+            self.fed(store, 1, 5)
+            replica = Replica(self.path)
+            self.addCleanup(replica.close)
+            self.fed(store, 6, 9)
+            store._engine._journal.opened.execute("DELETE FROM batches WHERE version=6")
+            for _ in range(2):
+                self.assertRaisesRegex(JournalFault, "version 6 is missing", replica._step, mock.Mock())
+            self.assertEqual(told(replica.store), Model().upto(5).told())
 
     def test_names_and_units(self):
         with Store(self.path) as store:

@@ -3,7 +3,7 @@ from __future__ import annotations
 
 import os
 from base64 import b64decode, b64encode
-from contextlib import suppress
+from contextlib import closing, suppress
 from typing import Any, Dict, List, Mapping, NamedTuple, Optional, Protocol, Tuple
 
 from .bases import base_of
@@ -102,10 +102,27 @@ class Copy(AsOf):
             raise JournalFault(f"the first has version {added.newest} only, and had {self.state.version}: it is another one")
         self.state.replay(added.rows)
         if added.rows:
-            held = self.state.engine.hold_apart()
-            self.state.kinds = held.kinds()
-            held.close()
+            self._look_at_kinds()
         self.settings = added.settings
+
+    def lacks(self, added: Added) -> bool:
+        """Whether the batch that comes next isn't among those that were added, though there are later ones."""
+        following = self.state.version + 1
+        return added.newest >= following and [it.version for it in added.rows[:1]] != [following]
+
+    def become(self, state: State, settings: Settings) -> None:
+        """Has what the first has now in place of what it had. Versions that are held answer on. Raises `JournalFault` where that
+        isn't later."""
+        if state.version <= self.state.version:
+            state.engine.close()
+            raise JournalFault(f"version {self.state.version + 1} is missing, and the first begins with {state.version}")
+        state.engine.seats = self.inner.seats
+        self.inner, self.state, self.settings = state.engine, state, settings
+        self._look_at_kinds()
+
+    def _look_at_kinds(self) -> None:
+        with closing(self.state.engine.hold_apart()) as held:
+            self.state.kinds = held.kinds()
 
 
 # What a server tells of its store's file, and what is made of that.

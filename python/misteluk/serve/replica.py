@@ -86,11 +86,14 @@ class Replica:
         added = self.first.added(self._copy.state.version)
         self._newest = added.newest
         self._ahead = added.rows[0].at / 1e6 if added.rows else 0.0
-        if not added.rows and added.settings == self._copy.settings:
+        if not added.rows and added.settings == self._copy.settings and not self._copy.lacks(added):
             return False
         before, ledger = self._copy.settings, self.store._ledger
         try:
-            self._copy.take(added)
+            if self._copy.lacks(added):  # (by now only a base of the first has it)
+                self._copy.become(*self.first.begin(records.MOST_SEATS))
+            else:
+                self._copy.take(added)
         finally:
             take_over(self._copy, ledger)
             if self._copy.settings != before:
