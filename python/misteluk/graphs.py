@@ -1,10 +1,10 @@
 """A held version as a graph of networkx, which is read as far as somebody asks."""
 from __future__ import annotations
 
-from copy import copy
+from copy import copy, deepcopy
 from dataclasses import replace
 from itertools import repeat
-from typing import TYPE_CHECKING, Any, Dict, Iterator, KeysView, ItemsView, Mapping, Tuple, ValuesView
+from typing import TYPE_CHECKING, Any, Dict, ItemsView, Iterator, Mapping, Tuple, ValuesView
 
 import networkx
 from networkx.classes.function import frozen
@@ -27,8 +27,11 @@ class Frozen(Row):
     __setitem__ = __delitem__ = __ior__ = clear = pop = popitem = setdefault = update = frozen
 
     def __reduce__(self) -> Any:
-        """What pickles it, and copies it deeply: a plain dict."""
+        """What pickles it: a plain dict, which a deep copy is too."""
         return dict, (dict(self),)
+
+    def __deepcopy__(self, known: Any) -> Row:
+        return {key: deepcopy(it, known) for key, it in self.items()}
 
 
 NOTHING = Frozen()
@@ -153,7 +156,7 @@ class _HeldGraph:
     def adj(self) -> Any:
         """The edges out of each name. (networkx would take a closed session for no graph, where it makes one of this.)"""
         self._read.nodes()
-        return self._plain.adj.func(self)
+        return self._plain.adj.__get__(self)
 
     def copy(self, as_view: bool = False) -> Any:
         """Returns a graph of networkx's own class that has all edges, and can be changed; with `as_view` what networkx gives."""

@@ -287,7 +287,8 @@ class Session(Generic[W, T]):
         floats where the store's units have decimals.
 
         Nobody can change the graph (`networkx.NetworkXError`); its `copy` is a plain graph of your own, and so is what is
-        pickled. It answers as long as the session is open, which keeps the edges that it read for the last kind and window.
+        pickled. An algorithm that changes its graph for a while, as `negative_edge_cycle`, needs the copy. The graph answers as
+        long as the session is open, which keeps the edges that it read for the last kind and window.
 
         >>> graph = session.graph("road")  # needs networkx
         >>> import networkx

@@ -208,6 +208,8 @@ class Views(Case):
             for part in (view.adj, view._adj, view._node, view["ulm"], view._adj["ulm"], view.edges, view.nodes):
                 for again in (pickle.loads(pickle.dumps(part)), copy.deepcopy(part)):
                     self.assertEqual(plain(again), plain(part))
+            row = copy.deepcopy(view._adj)["ulm"]
+            self.assertEqual({type(row), *map(type, row.values()), type(pickle.loads(pickle.dumps(view._adj))["ulm"])}, {dict})
             self.assertIs(type(view.__class__()), kind)
             self.assertEqual(list(view.__class__([("x", "y")], name="n").edges)[0][:2], ("x", "y"))
 
