@@ -86,6 +86,21 @@ class Named(unittest.TestCase):
             (self.room / "built").unlink(missing_ok=True)
             self.script("proved", f'echo proved > "{self.room}/ran"; kill $PPID')
 
+    def test_each_fault_counts(self):
+        """With a program that answers nothing: those count too that are judged at the end of a pipe."""
+        for it in ("examples", "tests/scripts"):
+            shutil.copytree(TOP / it, self.room / it)
+        for it in ("reading", "long_runs", "arguments", "terminals"):
+            (self.room / "tests/scripts/checks" / it).write_text("")
+        env = {**os.environ, "MISTELUK_PROGRAM": str(self.script("silent", "cat > /dev/null; exit 9"))}
+        done = subprocess.run([self.room / "examples/check"], env=env, stdout=subprocess.PIPE, text=True, timeout=60)
+        said = done.stdout.splitlines()
+        faults = sum(it.startswith("examples/check: ") for it in said)
+        limits = (TOP / "tests/scripts/checks/limits").read_text().count("judge_end ")
+        self.assertGreater(limits, 3)
+        self.assertEqual(sum("(made here)" in it for it in said), limits)
+        self.assertEqual((done.returncode, said[-1]), (1, f"examples: 0 passed, {faults} failed"))
+
     def gate(self, *words, path="", faulty=""):
         """Runs ./check where each of its parts is a script that notes its call and says so, or the faulty one that it fails."""
         noted = f'env | grep ^MISTELUK_ >> "{self.room}/named"; echo "${{0#{self.room}/}} $*" | tee -a "{self.room}/parts"'
