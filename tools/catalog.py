@@ -109,9 +109,9 @@ def astray(top: pathlib.Path) -> Iterator[str]:
         if not (MODULE if is_module else COMMAND).fullmatch(it):
             yield f"tools/{it}: {'words of a module are joined by _' if is_module else 'words of a command are joined by -'}"
     gate = set(re.findall(r"(?m)^(?!#)[^#\n]*?tools/([\w.-]+)", (top / "check").read_text(encoding="utf-8")))
-    for it in listed:
-        if (it.name in gate) != (it.run_by == GATE):
-            yield f"tools/catalog.py: ./check {'runs' if it.name in gate else 'does not run'} {it.name}"
+    for tool in listed:
+        if (tool.name in gate) != (tool.run_by == GATE):
+            yield f"tools/catalog.py: ./check {'runs' if tool.name in gate else 'does not run'} {tool.name}"
     if not (top / "tools/README.md").is_file() or (top / "tools/README.md").read_text(encoding="utf-8") != page():
         yield "tools/README.md is stale: tools/catalog.py writes it"
 
