@@ -39,7 +39,7 @@ class Tool:
 
 
 PARTS = {
-    "What the gate runs": [
+    "What `./check` runs": [
         Tool("habits.py", "checks habits of pages, scripts, names and commits, in a second", GATE),
         Tool("gate-times", "runs the proofs, and prints the processor time of each crate", GATE),
         Tool("side-by-side", "runs the parts of `./check --unproved`, as many at once as there are processors", GATE),
@@ -54,7 +54,7 @@ PARTS = {
     "While you write a patch": [
         Tool("crates-above", "names the crates to prove after a change of one"),
         Tool("docs", "writes a page of all public calls with their contracts; `--readmes` the lists in the crates' READMEs"),
-        Tool("wrong-bodies", "tries the wrong bodies that the gate doesn't: the prover must refuse each"),
+        Tool("wrong-bodies", "tries the wrong bodies that `./check` doesn't: the prover must refuse each"),
         Tool("wrong-python", "makes wrong bodies of the client, and prints those that its tests don't refuse"),
         Tool("interface", "writes what Python declares of `include/misteluk.h`", "`test_library`, or by hand"),
         Tool("help-pages", "writes manual page and completions from the program's help", "`python/check`, or by hand"),
@@ -69,7 +69,7 @@ PARTS = {
         Tool("proof-numbers", "counts functions, clauses and lemmas, for [PROOF](../docs/PROOF.md)"),
         Tool("draw-pictures", "draws the pictures of the pages"),
         Tool("draw-served", "draws the page of a server", "`draw-pictures`"),
-        Tool("release", "makes the archive and the wheel of a commit that passed the gate"),
+        Tool("release", "makes the archive and the wheel of a commit that passed `./check`"),
         Tool("try-release", "tries both in a minimal tree of Debian"),
     ],
     "Modules": [
