@@ -40,7 +40,7 @@ class Tool:
 
 PARTS = {
     "What `./check` runs": [
-        Tool("habits.py", "checks habits of pages, scripts, names and commits, in a second", GATE),
+        Tool("habits.py", "checks habits of pages, scripts, names and commits, in ten seconds", GATE),
         Tool("gate-times", "runs the proofs, and prints the processor time of each crate", GATE),
         Tool("side-by-side", "runs the parts of `./check --unproved`, as many at once as there are processors", GATE),
         Tool("test_parts", "compiles the tests of [tests/parts](../tests/parts/README.md) without a proof, and runs them", GATE),

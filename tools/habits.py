@@ -6,7 +6,7 @@
 - A sentence of README.md, CONTRIBUTING.md, docs/ and the crates' READMEs has at most 30 words. A span of code is one word, a
   link's target none.
 - A link of a page leads to a file of the repository, and to a heading of it where it names one. One that shows a name, as
-  [`step`](FILE.antt), leads to the file of specs that defines it.
+  [`step`](FILE.antt), leads to the file of specs that defines it. A law and a file that a page shows is there.
 - Each crate of crates.txt is named in CONTRIBUTING.md, and stands on crates that crates.txt lists or the kit has. The map
   there has no crate in a row above those that it stands on.
 - A crate's row has those crates of the repository that its sources, specs and proofs name, and no others.
@@ -59,6 +59,9 @@ BYTES = 160_000
 # Subjects of before this one were written without the rule.
 SINCE = "cf1127e"
 PAGES = {".md", ".py", ".rs", ""}
+# What a page shows as a law, and as a file of this repository that nobody makes.
+LAW = re.compile(r"`(?:\w+::)*(law_\w+)`")
+PATH = re.compile(r"`((?:tools|tests|examples|bench|docs|python|include|share|crates)/(?!\w+/out/)[\w./-]+)[` ]")
 DEFINED = re.compile(r"\[`([^`]+)`\]\(([^)\s]+\.antt)\)")
 FENCED = re.compile(r"(?ms)^```.*?^```$")
 LINK = re.compile(r"(?<!!)\[[^\]]*\]\(([^)\s]+)\)")
@@ -177,6 +180,19 @@ def undefined_names(page):
         head = rf"^(?:abbrev|record|data) pub {re.escape(name)}\b|^pub (?:record|data) {re.escape(name)}\b"
         if to.exists() and not re.search(head, to.read_text(encoding="utf-8"), re.M):
             yield f"{page.relative_to(TOP)}: {target} doesn't define {name}"
+
+
+def absent_things(pages):
+    """Yields each law that pages show and no crate has, and each file: PROOF's reader is to look at both."""
+    sources = (it.read_text(encoding="utf-8") for it in TOP.glob("crates/*/src/**/*.rt"))
+    laws = {it for text in sources for it in re.findall(r"fn (law_\w+)", text)}
+    for page in pages:
+        text = page.read_text(encoding="utf-8")
+        yield from (f"{page.relative_to(TOP)}: no crate has {it}" for it in LAW.findall(text) if it not in laws)
+        for name in PATH.findall(text):
+            is_there = any((top / name).exists() for top in (TOP, TOP / "python"))
+            if not is_there and not re.search(r"NAME|\.\.", name):
+                yield f"{page.relative_to(TOP)}: no {name}"
 
 
 def table_of_words():
@@ -338,7 +354,7 @@ def main():
         "width of lines": [it for path in known if path.suffix in PAGES for it in wide_lines(path)],
         "length of sentences": [it for page in [*told, *rooms()] for it in long_sentences(page)],
         "links": [it for page in pages for it in dead_links(page)],
-        "names of definitions": [it for page in pages for it in undefined_names(page)],
+        "names of definitions": [*(it for page in pages for it in undefined_names(page)), *absent_things(pages)],
         "crates": [*crate_rows.unnamed(), *crate_rows.misplaced(), *crate_rows.misnamed()],
         "words": list(words_astray([*told, *rooms()])),
         "plain English": [*(it for page in pages for it in coined_words(page)), *memory_detours()],
