@@ -10,7 +10,8 @@
 Where a task begins (`help(misteluk.Store.load)` has more, and so on):
 
 - Fill a store: `Store.load` takes a file, a pandas DataFrame, a graph or rows, of which `Columns` says the columns;
-  `Store.follow` takes a file that grows. `insert`, `add`, `remove` and `expire` are applied by `Store.commit`.
+  `Store.follow` takes a file that grows, and has alerts (`on=`). `insert`, `add`, `remove` and `expire` are applied by
+  `Store.commit`.
 - Amounts with cents, and dates: `Store(units=Units(weight_scale=100, times="iso"))`. Without units both are whole numbers.
 - Ask: `Store.open` returns a `Session`, with `degrees`, `weights_in`, `out_edges`, `in_edges`, `neighborhood`, `path`,
   `components` and others. Each answer has `to_pandas`; tables and edges have `top`; `Edges` have `to_networkx` too.
@@ -44,6 +45,7 @@ if TYPE_CHECKING:
     from .feeds.rejects import Rejected
     from .feeds.steps import Followed
     from .feeds.surveys import Survey, survey
+    from .feeds.touched import Touched
     from .page.view import View, view
     from .part import Part
     from .saving import Saved
@@ -53,13 +55,13 @@ if TYPE_CHECKING:
 # The modules that are loaded with the first of their names that somebody asks for.
 _LATER: Dict[str, str] = {name: module for module, names in {
     "feeds.following": "Following", "feeds.loading": "Loaded", "feeds.rejects": "Rejected", "feeds.steps": "Followed",
-    "feeds.surveys": "Survey survey", "page.view": "View view", "part": "Part", "saving": "Saved",
+    "feeds.surveys": "Survey survey", "feeds.touched": "Touched", "page.view": "View view", "part": "Part", "saving": "Saved",
     "serve.awaited": "AsyncSession", "serve.client": "ServedStore connect"}.items() for name in names.split()}
 
 # What there is, in the order in which a newcomer meets it.
 __all__ = [
     "Store", "Session", "Units", "Limits", "Columns", "connect", "ServedStore", "AsyncSession", "Part",
-    "survey", "Survey", "Loaded", "Following", "Followed", "Rejected",
+    "survey", "Survey", "Loaded", "Following", "Followed", "Touched", "Rejected",
     "Commit", "Collected", "Compacted", "Stat", "Saved",
     "Answer", "Components", "Degree", "Edge", "Edges", "Neighbor", "Diff", "Changed", "Flow", "view", "View",
     "StoreError", "Refused", "BadRows", "NoVertex", "SessionClosed", "JournalError",

@@ -7,7 +7,7 @@ A caller notes as the last thing it does that it gives what a commit did (`guard
 from __future__ import annotations
 
 from dataclasses import replace
-from typing import Any, Dict, List, NamedTuple, Optional, Sequence, Tuple
+from typing import Any, Callable, Dict, List, NamedTuple, Optional, Sequence, Tuple
 
 from .engine.calling import MOST_AT_ONCE
 from .engine.guard import FORKS, Guard, alone
@@ -52,6 +52,8 @@ class Ledger:
         # The receipts of the last commit, which are to be told, and those that were told, which the next one lets go.
         self.telling: "Tuple[Commit, ...]" = ()
         self.taken: "List[Tuple[Commit, ...]]" = []
+        # What is called with each batch that is in, and the version that it made.
+        self.noted: Callable[[int, Operations], object] = lambda version, batch: None
         self._guard = Guard()
         self._books = Books()
 
@@ -269,6 +271,7 @@ class Ledger:
             flight.cut.extend(map(self.pending.__delitem__, (slice(flight.batch.size),)))
         if books.feed is not None:
             self._take(*books.feed)
+        self.noted(receipt.version, flight.batch)
         self._books = Books((*books.untold, receipt) if books.of_pending else books.untold)
         return receipt
 

@@ -30,6 +30,7 @@ if TYPE_CHECKING:
     from .feeds.loading import Loaded
     from .feeds.spans import Span
     from .feeds.surveys import Survey
+    from .feeds.touched import Touched
     from .journal.compaction import History
     from .journal.engine import AsOf, Journaled
     from .journal.file import StoreFile
@@ -267,7 +268,7 @@ class Store(Uncopied, Opened, Generic[W, T]):
     def follow(self, feed: Any, *, by: By, every: Span = 1.0, keep: Optional[Span] = None,
                ahead: Optional[Span] = None, batch: int = records.MOST_OPERATIONS, until_end: bool = False,
                skip_bad: bool = False, rejects: Optional[Path] = None, progress: Optional[bool] = None,
-               **read_as: Unpack[ReadOptions]) -> Following:
+               on: Optional[Callable[[Touched], object]] = None, **read_as: Unpack[ReadOptions]) -> Following:
         """Follows a file that grows, standard input (`-`), or an open pipe or socket: each step of the result is a commit.
 
         >>> session.edges().to_csv("roads.csv")
@@ -286,10 +287,11 @@ class Store(Uncopied, Opened, Generic[W, T]):
         steps with everything in that was read. A bad row ends them by `BadRows` when all before it is in, unless `skip_bad` or
         `rejects` (see `load`); a file that is cut short or rewritten ends them by `FeedFault`. If a commit is refused or not
         answered, the error says which rows aren't in; they stay pending, and the next step tries them again. `Uncommitted`:
-        operations are pending."""
+        operations are pending. `on` is called with each batch (`Touched`) once it is in. If it raises, so does the step, and the
+        next one calls it again; a restart with a store's file does so with the feed's last batch: its call may not have ended."""
         from .feeds.following import follow
         return follow(self, feed, by=by, every=every, keep=keep, ahead=ahead, batch=batch, until_end=until_end, skip_bad=skip_bad,
-                      rejects=rejects, progress=progress, **read_as)
+                      rejects=rejects, progress=progress, on=on, **read_as)
 
     @classmethod
     @_named
@@ -402,8 +404,7 @@ class Store(Uncopied, Opened, Generic[W, T]):
         `PoolEmpty` says that a copy of an older version finds too few blocks; nothing is changed then. After an interrupt the
         same call finds what was done, and does it no second time.
 
-        A server's store raises `StoreError`, since the server does this by itself. `store.file.compact` makes a store's file
-        smaller."""
+        A server's store raises `StoreError`: the server does this by itself. `store.file.compact` makes a file smaller."""
         if session is None:
             self._ledger.settle()
             return self._engine.renew()
@@ -442,8 +443,7 @@ class Store(Uncopied, Opened, Generic[W, T]):
     # The end.
 
     def close(self) -> None:
-        """Closes the sessions and ends the store. Raises `Uncommitted` if operations are pending, which are lost; the error has
-        them.
+        """Closes the sessions and ends the store. Raises `Uncommitted` if operations are pending: the error has these.
 
         >>> store.close()
         >>> session.is_open

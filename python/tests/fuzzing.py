@@ -8,16 +8,15 @@ import sys
 from typing import List, Sequence, Tuple
 
 NAMES = ("ana", "funnel", "Иванов", "%", "%00", "%ff", "..", "a b", "*", "~~0123456789abcdefghij", "x" * 300, "", "0", "-1",
-         "null", "18446744073709551616", "1e9", "%F0%9F%98%80", "'", '"', "<script>", "\\", "%2e%2e%2f", "true", "nan",
-         "2024-03-04")
+         "null", "18446744073709551616", "9999999999999999999", "1e9", "%F0%9F%98%80", "'", '"', "<script>", "\\", "%2e%2e%2f",
+         "true", "nan", "2024-03-04")
 PATHS = ("", "v1", "v1/stat", "v1/edge", "v1/out_edges", "v1/in_edges", "v1/edges", "v1/levels", "v1/neighborhood",
-         "v1/path", "v1/degrees", "v1/weights_in", "v1/components", "v1/cores", "v1/names", "v1/view", "v1/sessions",
-         "v1/sessions/zed",
-         "v1/sessions/zed/ask", "v1/rows", "v1/feeder", "v1/feeder/zed", "v1/feeder/zed/batches/1", "openapi.json", "live.js",
-         "v1/ask", "metrics", "healthz", "readyz",
+         "v1/path", "v1/degrees", "v1/weights_in", "v1/components", "v1/cores", "v1/names", "v1/view", "v1/diff", "v1/rate",
+         "v1/log", "v1/sessions", "v1/sessions/zed", "v1/sessions/zed/ask", "v1/rows", "v1/feeder", "v1/feeder/zed",
+         "v1/feeder/zed/batches/1", "openapi.json", "live.js", "v1/ask", "metrics", "healthz", "readyz",
          "../etc/passwd", "//", f"v1/feeder/zed/batches/{'1' * 5_000}", "v1/feeder/zed/batches/%D9%A1")
 FIELDS = ("kind", "source", "target", "vertex", "hops", "since", "until", "top", "by", "like", "session", "version", "beside",
-          "most", "directed", "around", "feeder", "zed")
+          "most", "directed", "around", "feeder", "from", "to", "after", "zed")
 METHODS = ("GET", "GET", "GET", "POST", "POST", "PUT", "DELETE", "HEAD", "PATCH", "OPTIONS", "ZED")
 BODIES = ("", "{}", "[]", "null", '{"rows": []}', '{"rows": [["add", "k", "a", "b", 1, 1]]}', '{"call": "cores"}', "\x00",
           '{"call": "found", "ends": 5}', '{"call": "edges", "since": -1}', '{"operations": "a,k,x,y,1,1\\n"}', "add,k,a,b,1,1",
@@ -37,7 +36,8 @@ HEADERS = {"Host": (*ANY, *ADDRESSES), "Origin": (*ANY, *ADDRESSES),
            "Content-Length": (*ANY, "-1", "+5", "5, 5", "9" * 30, "1" * 5_000, "0x5", "1e3", "5.0", "\xb2"),
            "Accept": (*ANY, "text/html;q=x", "*/*;q=9e999", "/", "application/json" * 400),
            "Misteluk-Server": (*ANY, "zed", "\xd8\x00", "0" * 5_000), "Sec-Fetch-Site": (*ANY, "cross-site", "none"),
-           "Cookie": ANY, "Range": (*ANY, "bytes=9-1", "bytes=" + "0-1," * 500), "Expect": (*ANY, "100-continue", "200-ok"),
+           "Last-Event-ID": (*ANY, "zed:1", "x:9999999999999999999"), "Cookie": ANY,
+           "Range": (*ANY, "bytes=9-1", "bytes=" + "0-1," * 500), "Expect": (*ANY, "100-continue", "200-ok"),
            "Transfer-Encoding": (*ANY, "chunked", "gzip", "chunked, chunked"),
            "Connection": (*ANY, "upgrade", "close, keep-alive"),
            "Upgrade": (*ANY, "websocket", "h2c"), "If-Modified-Since": ANY, "X-Forwarded-For": (*ANY, *ADDRESSES)}

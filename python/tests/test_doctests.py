@@ -18,7 +18,7 @@ from misteluk.journal import file
 # The server of the examples, and what a server needs.
 URL, OF_SERVER = "http://127.0.0.1:7700", ("starlette", "uvicorn")
 # Which class's example one goes on from, where that isn't the session's.
-BEFORE = {"misteluk": (), "Store": (), "Session": (), "Followed": ("Session", "Following")}
+BEFORE = {"misteluk": (), "Store": (), "Session": (), "Followed": ("Session", "Following"), "Touched": ("Session", "Following")}
 
 
 def public():

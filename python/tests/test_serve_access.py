@@ -12,7 +12,7 @@ from serving import Clock, ServeCase
 from misteluk import SessionClosed, StoreError, connect
 from misteluk.errors import NoServer, NotAllowed
 from misteluk.serve import alive
-from misteluk.serve.feeding import Rate
+from misteluk.serve.rate import Rate
 from misteluk.serve.talk import Talk
 
 TOKEN = "Secret-token_42"

@@ -4,6 +4,7 @@ import http.client
 import io
 import json
 import os
+import random
 import threading
 import time
 import unittest
@@ -12,6 +13,7 @@ from contextlib import ExitStack
 from described import faults, wrong
 from serving import FEED, HAS_PACKAGES, NO_PACKAGES, ServeCase
 
+import misteluk
 from misteluk import Units
 from misteluk.serve import schemas
 from misteluk.serve.limits import BYTES_AT_ONCE, ServerLimits
@@ -26,7 +28,8 @@ if HAS_PACKAGES:
     from misteluk.serve.flow import Flow, Shares
 
 ODD = ('a "quoted" name', "a,b", "line\nbreak", "Иванов Пётр")
-ASKED = {"out_edges": "source=ana", "in_edges": "target=funnel", "levels": "source=ana", "neighborhood": "vertex=ana&hops=2"}
+ASKED = {"diff": "from=1", "out_edges": "source=ana", "in_edges": "target=funnel", "levels": "source=ana",
+         "neighborhood": "vertex=ana&hops=2"}
 
 
 class Csv(ServeCase):
@@ -39,10 +42,11 @@ class Csv(ServeCase):
         """The same rows as JSON has them, with the names of its columns above them."""
         self.fed(*FEED, *(["add", "k", it, "hub", 1.5, 1] for it in ODD), units=Units(weight_scale=100))
         tables = [it.name for it in QUESTIONS if it.columns]
-        self.assertEqual(len(tables), 10)
+        self.assertEqual(len(tables), 11)
         for name in tables:
             for more in ("", "top=2", "top=0"):
-                path = f"/v1/{name}?{'&'.join(filter(None, (ASKED.get(name), more if name != 'components' else '')))}"
+                more = "" if name in ("components", "diff") else more
+                path = f"/v1/{name}?{'&'.join(filter(None, (ASKED.get(name), more)))}"
                 found, (head, *rows) = self.csv_of(path)
                 columns = self.ask(path).json["columns"]
                 self.assertEqual(head, list(columns), path)
@@ -70,6 +74,99 @@ class Csv(ServeCase):
                                   (",;,", False),
                                   ("text/csv;header=present;q=0.2, application/json;q=0.1", True)):
             self.assertEqual(wants_csv(accept), is_wanted, accept)
+
+
+class Two(ServeCase):
+    """What became of edges from one held version to another."""
+
+    def begin(self, **options):
+        self.serve(units=Units(weight_scale=100, times="iso"), **options)
+        rows = [["add", "k", "ana", "bob", "1.50", "2024-03-01"], ["add", "k", "bob", "cat", 2, "2024-03-02"],
+                ["add", "l", ODD[1], ODD[2], 3, "2024-03-03"], ["add", "k", "ana", "cat", 7, "2024-03-01"]]
+        self.post("/v1/rows", {"rows": rows})
+        self.post("/v1/sessions")
+        self.post("/v1/rows", {"rows": [["remove", "k", "bob", "cat"], ["add", "k", "ana", "bob", "0.25", "2024-03-04"],
+                                        ["add", "m", "dan", "ana", 9, "2024-03-05"]]})
+        self.post("/v1/sessions")
+        self.post("/v1/rows", {"rows": [["insert", "k", "ana", "cat", 7, "2024-03-09"]]})
+
+    DAY = "2024-03-{:02}T00:00:00+00:00"
+
+    def test_each_state(self):
+        self.begin()
+        told = self.ask("/v1/diff?from=1&to=2").json
+        self.assertEqual([told[it] for it in ("version", "from", "rows", "gone", "new", "changed")], [2, 1, 3, 1, 1, 1])
+        day = self.DAY.format
+        none = (None,) * 3
+        self.assertEqual(self.rows_of("/v1/diff?from=1&to=2"),
+                         [("gone", "k", "bob", "cat", "2.00", day(2), day(2), *none),
+                          ("new", "m", "dan", "ana", *none, "9.00", day(5), day(5)),
+                          ("changed", "k", "ana", "bob", "1.50", day(1), day(1), "1.75", day(1), day(4))])
+        self.assertEqual([it[:4] for it in self.rows_of("/v1/diff?from=2&to=1")],
+                         [("gone", "m", "dan", "ana"), ("new", "k", "bob", "cat"), ("changed", "k", "ana", "bob")])
+        self.assertEqual(self.rows_of("/v1/diff?from=1&to=1"), [])
+        found = self.ask("/v1/diff?from=2")  # (to the last one)
+        self.assertEqual((found.headers["misteluk-version"], found.json["columns"]["recent_after"]), ("3", [day(9)]))
+        for more, states in (("kind=k", ["gone", "changed"]), ("kind=m", ["new"]), ("kind=l", []),
+                             ("until=2024-03-03", ["gone", "gone"]), ("since=2024-03-05", ["new"])):
+            self.assertEqual(self.ask(f"/v1/diff?from=1&to=2&{more}").json["columns"]["state"], states, more)
+
+    def test_as_csv(self):
+        """What isn't there is an empty field."""
+        self.begin()
+        found = self.ask("/v1/diff?from=1&to=2", Accept="text/csv")
+        rows = list(csv.reader(io.StringIO(found.body.decode("utf-8"), newline="")))
+        self.assertEqual(rows, [list(self.ask("/v1/diff?from=1&to=2").json["columns"]),
+                                *[["" if it is None else str(it) for it in row] for row in self.rows_of("/v1/diff?from=1&to=2")]])
+        self.assertEqual(rows[2][4:7], ["", "", ""])
+
+    def test_what_is_asked(self):
+        """Two versions that are held; it is one of no batch of questions."""
+        self.begin()
+        for asked, status in (("", 400), ("to=1", 400), ("from=x", 400), ("from=1&version=2", 400), ("from=1&session=x", 400),
+                              ("from=1&from=2", 400), ("from=1&top=3", 400), ("from=0", 410), ("from=1&to=9", 410),
+                              ("from=3", 200), ("from=1&kind=nothing", 200)):
+            self.assertEqual(self.ask(f"/v1/diff?{asked}").status, status, asked)
+        answer, = self.post("/v1/ask", {"questions": [{"question": "diff", "from": 1}]}).json["answers"]
+        self.assertEqual(answer["status"], 400)
+
+    def test_a_model(self):
+        """Random versions beside plain dicts; and what a client in Python finds by its own sessions."""
+        chance, graph, versions = random.Random(6), {}, []
+        self.serve()
+        with misteluk.connect(self.server.url) as store:
+            for version in range(1, 6):
+                for _ in range(40):
+                    ends = chance.choice("kl"), chance.choice("abcde"), chance.choice("abcde")
+                    if chance.random() < 0.3:
+                        store.remove(*ends)
+                        graph.pop(ends, None)
+                    else:
+                        store.insert(*ends, chance.randrange(3), version)
+                        graph[ends] = (store._ledger.pending[-1][4], graph.get(ends, (0, version))[1], version)
+                self.assertEqual(store.commit().version, version)
+                versions.append((store.open(), dict(graph)))
+            for earlier, before in versions:
+                for later, after in versions:
+                    told = self.rows_of(f"/v1/diff?from={earlier.version}&to={later.version}")
+                    gone = [("gone", *it, *mark, None, None, None) for it, mark in before.items() if it not in after]
+                    new = [("new", *it, None, None, None, *mark) for it, mark in after.items() if it not in before]
+                    changed = [("changed", *it, *mark, *after[it]) for it, mark in before.items() if after.get(it, mark) != mark]
+                    self.assertEqual(sorted(map(str, told)), sorted(map(str, gone + new + changed)))
+                    self.assertEqual(earlier.diff(later).counts(),
+                                     {"gone": len(gone), "new": len(new), "changed": len(changed)})
+
+    def test_many_rows(self):
+        """In parts, of which one has rows of several states."""
+        rows = [["add", "k", f"a{it}", "b", 1, 1] for it in range(5_000)]
+        self.fed(*rows)
+        self.post("/v1/sessions")
+        more = [["add", "k", f"c{it}", "b", 1, 1] for it in range(3_000)]
+        self.post("/v1/rows", {"rows": [*(["remove", *it[1:4]] for it in rows[:1_500]), *rows[1_500:3_500], *more]})
+        found = self.rows_of("/v1/diff?from=2")
+        wanted = [("gone", 1, None)] * 1_500 + [("new", None, 1)] * 3_000 + [("changed", 1, 2)] * 2_000
+        self.assertEqual([(it[0], it[4], it[7]) for it in found], wanted)
+        self.assertEqual({it[2] for it in found[:1_500]}, {f"a{it}" for it in range(1_500)})
 
 
 class Many(ServeCase):
@@ -243,10 +340,12 @@ class Parameters(unittest.TestCase):
     WAY, NAME = Parameter("way", "", choices=("out", "both")), Parameter("name", "")
 
     def test_what_is_read(self):
-        for it, text, value in ((self.NUMBER, "0", 0), (self.NUMBER, "9" * 19, 10**19 - 1), (self.PART, "1", 1),
+        most = 2**63 - 1
+        for it, text, value in ((self.NUMBER, "0", 0), (self.NUMBER, str(most), most), (self.PART, "1", 1),
                                 (self.PART, "9", 9), (self.WAY, "both", "both"), (self.NAME, "7", "7"), (self.NAME, "", "")):
             self.assertEqual(it.read(text), value)
-        for it, texts, why in ((self.NUMBER, ("1" + "0" * 19, "-1", "", "x", "\u0667"), "version is a whole number from 0$"),
+        no_version = str(2**63), "1" + "0" * 19, "-1", "", "x", "\u0667"
+        for it, texts, why in ((self.NUMBER, no_version, "version is a whole number from 0$"),
                                (self.PART, ("0", "10"), "top is a whole number from 1 to 9$"),
                                (self.WAY, ("in", ""), "way is one of out, both$")):
             for text in texts:

@@ -7,6 +7,7 @@ import stat
 import subprocess
 import sys
 import threading
+import time
 import unittest
 from contextlib import redirect_stderr, redirect_stdout, suppress
 from typing import List
@@ -140,6 +141,11 @@ class Doors(ServeCase):
                 self.assertEqual(getattr(ServerLimits(**{name: value}).checked(), name), value)
             for value in (least - 1, 0, most + 1, *[float("nan")] * isinstance(least, float)):
                 self.assertRaises(ValueError, ServerLimits(**{name: value}).checked)
+        for value, is_one in ((0, True), (5.0, True), (1e6, True), (-1, False), (1e7, False), (float("nan"), False)):
+            if is_one:
+                self.assertEqual(ServerLimits(publish=value).checked().publish, value)
+            else:
+                self.assertRaises(ValueError, ServerLimits(publish=value).checked)
 
     def test_a_question_that_takes_too_long(self):
         """It is told so, and lets its version go when it comes to its end."""
@@ -200,6 +206,29 @@ class Commands(ServeCase):
             said = done.communicate(timeout=60)[1]
         self.assertEqual((done.returncode, said.splitlines()[-1]), (0, "misteluk: ended at version 1, of 2 edges"))
         self.assertFalse(os.path.exists(path))
+
+    def test_versions_at_intervals(self):
+        """A command's server publishes by itself what came in, all of it at its end."""
+        path, saved = str(self.room / "socket"), str(self.room / "graph.gz")
+        done, _ = self.begin("--listen", f"unix:{path}", "--publish", "400ms", "--save", saved)
+        with connect(f"unix:{path}") as store:
+            seen, begun = set(), time.monotonic()
+            for at in range(1, 2_000):
+                store.add("k", "a", f"b{at}")
+                store.commit()
+                seen.add(store.stat().version)
+                if time.monotonic() > begun + 2:
+                    break
+            self.assertTrue(3 <= len(seen) <= 8 and at > 20, (seen, at))
+            as_soon_as(lambda: store.stat(after=at - 1).version == at)
+            store.add("k", "last", "b")
+            store.commit()
+        done.send_signal(signal.SIGTERM)
+        done.communicate(timeout=60)
+        with misteluk.Store.restore(saved) as restored, restored.open() as session:
+            self.assertEqual((session.has_vertex("last"), session.edge_count), (True, at + 1))
+        for wrong in ("x", "5 s"):
+            self.assertEqual(self.command("--publish", wrong, "--listen", f"unix:{path}").wait(60), 2)
 
     def test_it_grows(self):
         """It has more blocks, vertices and kinds than it began with, once they are needed."""

@@ -1,5 +1,6 @@
 """How a server ends, and what doesn't end it: what was acknowledged is saved before anything else."""
 import asyncio
+import json
 import os
 import signal
 import socket
@@ -86,6 +87,36 @@ class Signals(ProcessCase):
         found = Store.restore(self.saved)
         self.addCleanup(found.close)
         self.assertEqual(found.open().edge("k", "last", "b"), Edge(5, 1, 1))
+
+    def test_answers_in_flight(self):
+        """They come to their end, whole, where their readers take them; then the process ends, within 5 s in all."""
+        done, store = self.begin(), self.client()
+        store.load([(f"s{it % 300}", f"target-{it // 300}", it, it) for it in range(100_000)], by="set", progress=False)
+        with socket.socket(socket.AF_UNIX, socket.SOCK_STREAM) as reader:
+            reader.connect(self.path)
+            reader.sendall(b"GET /v1/edges HTTP/1.1\r\nHost: localhost\r\nConnection: close\r\n\r\n")
+            told = [reader.recv(1 << 10)]
+            begun = time.monotonic()
+            done.send_signal(signal.SIGTERM)
+            as_soon_as(lambda: os.path.exists(self.saved))  # (the end has begun)
+            self.assertIsNone(done.poll())
+            while told[-1]:
+                told.append(reader.recv(1 << 16))
+        done.communicate(timeout=120)
+        self.assertLess(time.monotonic() - begun, 5 if os.getloadavg()[0] < (os.cpu_count() or 1) else 60)
+        head, _, body = b"".join(told).partition(b"\r\n\r\n")
+        self.assertIn(b"transfer-encoding: chunked", head)
+        parts = []
+        while body:
+            size, _, body = body.partition(b"\r\n")
+            parts.append(body[:int(size, 16)])
+            body = body[int(size, 16) + 2:]
+        found = json.loads(b"".join(parts))
+        self.assertEqual((found["rows"], len(found["columns"]["recent"]), done.returncode), (100_000, 100_000, 0))
+
+    def test_how_long_it_may_take(self):
+        """Readers' time and the process's own are within 5 s."""
+        self.assertTrue(0 < ending.PATIENCE < ending.LAST < 5)
 
     def test_a_question_that_takes_long(self):
         """A thread that is at one delays the end no more than a reader does, before its first bytes and amid them."""

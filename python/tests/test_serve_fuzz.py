@@ -6,7 +6,10 @@ from concurrent.futures import ThreadPoolExecutor
 from fuzzing import fuzz
 from serving import FEED, ServeCase
 
+from misteluk import Store
+from misteluk.serve.limits import ServerLimits
 from misteluk.serve.people import People
+from misteluk.serve.server import Server
 
 # How many requests there are; a release has 10,000.
 COUNT = int(os.environ.get("MISTELUK_FUZZ", "4000"))
@@ -22,6 +25,14 @@ class Fuzz(ServeCase):
         self.assertGreater(sum(well for _, well in found), COUNT // 20)
         self.assertEqual(self.rows_of("/v1/edges?kind=owes"), before)
         self.assertIn(self.post("/v1/rows", {"rows": FEED}).status, (200, 409))  # (a request by chance may have taken the seat)
+
+    def test_a_store_with_a_file(self):
+        """Its calls ask the file too."""
+        with Store(str(self.room / "graph.db"), seats=16, sync="off") as store, Server(
+                store, "127.0.0.1:0", limits=ServerLimits(time=0.5)) as self.server:
+            self.assertEqual(self.post("/v1/rows", {"rows": FEED}).status, 200)
+            wrong, well = fuzz(self.server.address.port, COUNT // 8, 5)
+            self.assertEqual((wrong, well > COUNT // 160), ([], True))
 
     def test_with_roles(self):
         """By people of each role, and by some that are none: who only reads changes nothing."""

@@ -4,6 +4,7 @@ import http.client
 import json
 import os
 import random
+import re
 import signal
 import time
 import unittest
@@ -100,8 +101,12 @@ class Posts(JournalServed):
                 for _ in range(2):
                     done = self.add([f"{name},b"], Idempotency_Key="1", Authorization=f"Bearer secret-of-{name}")
                     self.assertEqual(done[0], 200)
+            self.assertEqual(self.add(["ana,c"], Authorization="Bearer secret-of-ana")[0], 200)
+            with misteluk.connect(server.url, token="secret-of-ben") as client:
+                client.add("k", "ben", "d")
+                client.commit()
             found = store._engine._journal.rows("SELECT version, feeder, producer FROM batches")
-        self.assertEqual(found, [(1, "ana", "1"), (2, "ben", "1")])
+        self.assertEqual(found, [(1, "ana", "1"), (2, "ben", "1"), (3, "ana", None), (4, "ben", None)])
 
     def test_its_end(self):
         server = self.begin("--sync", "normal")
@@ -113,15 +118,24 @@ class Posts(JournalServed):
         self.assertIn("--save is for a store that is in memory", done.communicate()[1])
 
     def test_a_file_that_takes_nothing_more(self):
+        """Clients are told so, without the file's place."""
+        self.path = str(self.room / "my graph.db")
         with Store(self.path, seats=16) as store, Server(store, "127.0.0.1:0") as server:
             self.port = server.address.port
             self.add(["a,b"])
             self.assertEqual(self.ask("GET", "/readyz")[0], 200)
             journal = store._engine._journal
             with mock.patch.object(journal, "_write", side_effect=lambda *_: (_ for _ in ()).throw(
+                    journal._failed(of_sqlite("database or disk is full", "SQLITE_FULL")))):
+                status, told = self.add(["a,c"])
+            full = "the store's file: database or disk is full. Nothing is written, and the store is as it was"
+            self.assertEqual((status, told), (503, {"error": "NotWritten", "reason": full}))
+            with mock.patch.object(journal, "_write", side_effect=lambda *_: (_ for _ in ()).throw(
                     journal._failed(of_sqlite("disk I/O error", "SQLITE_IOERR_FSYNC")))):
                 status, told = self.add(["a,c"])
             self.assertEqual((status, told["error"], self.add(["a,c"])[0]), (503, "JournalFault", 503))
+            self.assertIn("the store's file: a sync failed", told["reason"])
+            self.assertFalse(re.search(f"{self.room}|my graph", told["reason"]))
             self.assertEqual(self.ask("GET", "/readyz")[0], 503)
             self.assertEqual(self.ask("GET", "/v1/edges")[0], 200)
 

@@ -23,11 +23,11 @@ TOKENS = {"read": "token-of-rita", "feed": "token-of-fred", "admin": "token-of-a
 LINES = "# the team\nrita read token-of-rita\n\nfred  feed\ttoken-of-fred\nalma admin token-of-alma\nriva read token-of-riva\n"
 # Each call, and the least role that it is for: written here by hand, beside what the server says of itself.
 CALLS = {
-    "none": ["GET /", "GET /live.js", "GET /looking.js", "GET /asking.js", "GET /live.css", "GET /openapi.json",
+    "none": ["GET /", "GET /live.js", "GET /looking.js", "GET /asking.js", "GET /rates.js", "GET /live.css", "GET /openapi.json",
              "GET /healthz", "GET /readyz"],
     "read": ["GET /v1/edge", "GET /v1/out_edges", "GET /v1/in_edges", "GET /v1/edges", "GET /v1/levels", "GET /v1/neighborhood",
              "GET /v1/path", "GET /v1/degrees", "GET /v1/weights_in", "GET /v1/components", "GET /v1/cores", "GET /v1/names",
-             "GET /v1/view", "GET /v1/stat", "GET /metrics", "GET /v1/events",
+             "GET /v1/view", "GET /v1/stat", "GET /metrics", "GET /v1/events", "GET /v1/rate", "GET /v1/diff",
              "POST /v1/ask", "POST /v1/sessions", "GET /v1/sessions",
              "PUT /v1/sessions/{session}",
              "DELETE /v1/sessions/{session}", "POST /v1/sessions/{session}/ask"],

@@ -32,7 +32,7 @@ OUT_WITHOUT = (OTHER, {}, {"host": ""}, {"host": "[::1"}, {"host": "localhost.ex
                {**HOST, "origin": "http://localhost"}, {**HOST, "origin": "http://example.org:7700"}, {**HOST, "origin": "null"},
                {**HOST, "origin": "http://[::1"},
                {**HOST, "sec-fetch-site": "cross-site"}, {**HOST, "sec-fetch-site": "same-site"}, {**OTHER, **BEARER})
-OPEN = ("/", "/live.js", "/looking.js", "/asking.js", "/live.css", "/openapi.json", "/healthz", "/readyz")
+OPEN = ("/", "/live.js", "/looking.js", "/asking.js", "/rates.js", "/live.css", "/openapi.json", "/healthz", "/readyz")
 
 
 @unittest.skipUnless(HAS_PACKAGES, NO_PACKAGES)

@@ -1,4 +1,6 @@
 """Versions that clients share, and the seat of the one that feeds, by a clock of the tests' own."""
+import pathlib
+import threading
 import unittest
 from unittest import mock
 
@@ -10,7 +12,8 @@ from misteluk.errors import Busy
 from misteluk.serve.board import Board, Full
 from misteluk.serve.feeding import Feeding
 from misteluk.serve.keeping import Keeper
-from misteluk.serve.limits import ServerLimits
+from misteluk.serve import limits
+from misteluk.serve.limits import ServerLimits, versions_by_memory
 from misteluk.serve.posts import WaitingPost
 
 
@@ -101,6 +104,47 @@ class Versions(Case):
         with mock.patch.object(self.at._engine, "fly", fly):
             self.post(Feeding(self.board, ServerLimits()), [["add", "k", f"s{it}", "t", "1", "1"] for it in range(5_000)])
         self.assertEqual((told, [it for it, _ in self.told()]), ([(1, [1]), (1, [1])], [3]))
+
+    def test_versions_at_intervals(self):
+        """What is fed is no version before one is published; that waits for a post that is going in."""
+        self.board.limits = self.board.limits._replace(publish=5.0)
+        rung, feeding = [], Feeding(self.board, self.board.limits)
+        self.board.ring = lambda: rung.append(self.board.stat.version)
+        self.advance()
+        self.post(feeding, [["add", "k", "c", "d", "1", "1"]])
+        self.assertEqual((self.told(), self.board.stat.version, self.at.stat().version), ([(0, 0)], 0, 2))
+        leases = [self.board.lease(), self.board.lease()]
+        feeding.publish()
+        feeding.publish()
+        self.assertEqual((self.told(), self.board.stat.version, rung), ([(0, 2), (2, 0)], 2, [2]))
+        real, threads = self.at._engine.fly, []
+
+        def fly(flight):
+            found = real(flight)
+            threads.append(threading.Thread(target=feeding.publish))
+            threads[-1].start()
+            threads[-1].join(0.1)
+            return found
+        with mock.patch.object(self.at._engine, "fly", fly):
+            self.post(feeding, [["add", "k", f"s{it}", "t", "1", "1"] for it in range(5_000)])
+        for it in threads:
+            it.join()
+        self.assertEqual((rung, [it.version for it in self.board.held()]), ([2, 4], [0, 4]))
+        for it in leases:
+            self.board.let_go(it.name)
+
+    def test_how_many_by_memory(self):
+        """One for each 64 MB that the machine has, or its container, from 16 to 1,024."""
+        path = str(self.room / "memory.max")
+        for megabytes, container, wanted in ((8_192, None, 128), (8_192, "max\n", 128), (8_192, f"{4 << 30}\n", 64),
+                                             (8_192, f"{64 << 30}\n", 128), (512, None, 16), (1 << 20, None, 1_024),
+                                             (8_191, None, 127)):
+            pages = {"SC_PHYS_PAGES": megabytes << 8, "SC_PAGE_SIZE": 4_096}
+            if container is not None:
+                self.file("memory.max", container)
+            with mock.patch.object(limits, "OF_CONTAINER", path), mock.patch.object(limits.os, "sysconf", pages.get):
+                self.assertEqual(versions_by_memory(), wanted, (megabytes, container))
+            pathlib.Path(path).unlink(missing_ok=True)
 
     def test_who_asks_isn_t_silent(self):
         lease = self.board.lease()

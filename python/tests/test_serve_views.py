@@ -204,6 +204,64 @@ class Views(ServeCase):
         self.page(browser, "funnel")
         browser.wait_for("document.getElementById('view').style.height !== ''")
 
+    def press(self, browser, *keys):
+        """Presses keys, as Tab, or types a sign each."""
+        for it in keys:
+            named = {"Tab": (9, ""), "Enter": (13, "\r"), " ": (32, " "), "ArrowDown": (40, "")}.get(it, (0, it))
+            what = {"key": it, "windowsVirtualKeyCode": named[0], **({"text": named[1]} if named[1] else {})}
+            browser._call("Input.dispatchKeyEvent", type="keyDown", **what)
+            browser._call("Input.dispatchKeyEvent", type="keyUp", key=it, windowsVirtualKeyCode=named[0])
+
+    def to(self, browser, name):
+        """Presses Tab until the element has the focus."""
+        for _ in range(40):
+            if browser.see("document.activeElement.id || document.activeElement.textContent") == name:
+                return
+            self.press(browser, "Tab")
+        self.fail(f"Tab doesn't lead to {name}")
+
+    def test_by_keys_alone(self):
+        """A version is held and let go, a neighborhood opened and made live, a path and a table found, without a mouse."""
+        self.fed()
+        browser = self.open()
+        self.to(browser, "hold")
+        self.press(browser, "Enter")
+        browser.wait_for("document.getElementById('held').textContent.includes('this page')")
+        self.to(browser, "Let go")
+        self.press(browser, "Enter")
+        browser.wait_for("!document.getElementById('held').textContent.includes('this page')")
+        self.to(browser, "vertex")
+        self.press(browser, *"funnel", "Enter")
+        self.assertIn("Around funnel", self.page(browser, "funnel"))
+        self.to(browser, "live")
+        self.press(browser, " ")
+        browser.wait_for("location.hash === '#vertex=funnel&hops=2&live=1'")
+        self.to(browser, "from")
+        self.press(browser, *"boss", "Tab", *"offshore", "Enter")
+        self.assertIn("3 steps", self.seen(browser, "walk-part"))
+        self.to(browser, "ana")
+        self.press(browser, "Enter")
+        self.assertIn("Around ana", self.page(browser, "ana"))
+
+    def test_a_picture_by_keys(self):
+        """Of a neighborhood each vertex is reached, and kept by Enter, which the page around it is told."""
+        self.fed()
+        path = self.file("view.html", self.ask("/v1/view?vertex=funnel&hops=1").body.decode())
+        browser = Browser()
+        self.addCleanup(browser.close)
+        browser.go(f"file://{path}")
+        vertices = browser.see("document.querySelectorAll('.picture .vertex').length")
+        seen = set()
+        for _ in range(40):
+            self.press(browser, "Tab")
+            at = browser.see("document.activeElement.closest('.vertex')?.dataset.vertex ?? null")
+            if at is not None and at not in seen:
+                seen.add(at)
+                self.press(browser, "Enter")
+                self.assertEqual(browser.see("document.querySelector('#vertices tr.core')?.dataset.vertex"), at)
+                self.press(browser, "Enter")
+        self.assertEqual((len(seen), vertices), (4, 4))
+
     def test_a_token_and_an_address(self):
         """What the address says is shown when the token was entered."""
         self.serve(token="open-sesame")

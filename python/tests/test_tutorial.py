@@ -28,9 +28,10 @@ def commands(text):
 
 
 def text_of(path):
-    """A page, but for the part that has a server, which test_serve_docs.py runs, and the one that has dask (test_part.py)."""
+    """A page, but for parts that other tests run: those with a server (test_serve_docs.py), with a process that is killed
+    (test_touched.py), with dask (test_part.py)."""
     text = path.read_text(encoding="utf-8")
-    for title in ("### A team on one feed\n", "## Many graphs\n"):
+    for title in ("### A team on one feed\n", "### An alert that is reported once\n", "## Many graphs\n"):
         before, mark, part = text.partition(title)
         text = before + part[f"{part}\n## ".index("\n## "):] if mark else text
     return text

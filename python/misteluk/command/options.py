@@ -7,13 +7,14 @@ from typing import Any, Optional, get_args
 from . import around, file
 
 from ..options import Sync
-from ..serve.limits import FORMS, ROOM, USUAL, USUAL_EVERY, ServerLimits
+from ..serve.limits import FORMS, ROOM, USUAL, USUAL_EVERY, ServerLimits, versions_by_memory
 from ..serve.people import ROLES
 from ..values import records
 from ..values.answers import OF_DEGREES
 from ..version import VERSION
 from ..feeds.feed import Column, Columns
 from ..feeds.notations import DECIMALS, TIMES
+from ..feeds.spans import seconds_of
 from .questions import Question, question
 
 
@@ -187,8 +188,11 @@ def add_server_options(parser: argparse.ArgumentParser) -> None:
                         f"there is another version ({USUAL_EVERY:g})")
     listen.add_argument("--idle", type=float, default=usual.idle, metavar="SECONDS", help="let a client's version go when it was "
                         f"silent for so long ({usual.idle:g})")
-    listen.add_argument("--versions", type=int, default=usual.versions, metavar="N", help="how many versions clients may hold, "
-                        f"besides the newest; each takes memory for what came later ({usual.versions})")
+    many = versions_by_memory()
+    listen.add_argument("--versions", type=int, default=many, metavar="N", help="how many versions clients may hold, besides the "
+                        f"newest; each takes memory for what came later (one for each 64 MB of memory: {many} here)")
+    listen.add_argument("--publish", type=seconds_of, default=0.0, metavar="TIME", help="have what was fed become the newest "
+                        "version at such intervals, as 5s, so that those who come meanwhile share one; else each batch does")
     listen.add_argument("--clients", type=int, default=usual.clients, metavar="N", help=f"how many sessions there may be "
                         f"({usual.clients:,})")
     listen.add_argument("--body", type=int, default=usual.body, metavar="BYTES", help=f"how long a request's body may be "

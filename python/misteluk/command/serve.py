@@ -68,7 +68,7 @@ def serve(words: argparse.Namespace, how: Dict[str, Any]) -> int:
     """Serves a store until a signal ends it."""
     take_files(words)
     limits = ServerLimits(words.idle, words.clients, words.body, words.longest, words.questions, words.versions,
-                          words.each)
+                          words.each, words.publish)
     if words.save is not None and words.file not in (None, STANDARD_INPUT):
         raise ValueError("a file that is followed is read again at the start: --save is for rows that a pipe or clients bring")
     with log.written(words.log):

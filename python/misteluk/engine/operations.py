@@ -6,7 +6,7 @@ from __future__ import annotations
 
 from array import array
 from collections import defaultdict, deque
-from itertools import accumulate, compress, count, islice
+from itertools import accumulate, chain, compress, count, islice
 from operator import itemgetter
 from typing import TYPE_CHECKING, Any, Callable, DefaultDict, Dict, Iterable, List, NamedTuple, Optional, Sequence, Tuple
 
@@ -127,6 +127,14 @@ class Numbered(NamedTuple):
         """Whether an operation of this sort is among them."""
         return code in self.codes.tobytes()  # (an array would make a number of each of them)
 
+    def vertices(self) -> List[str]:
+        """The vertices that operations name, each once, in their order."""
+        ends: Any = zip(self.sources, self.targets)
+        if self.has(EXPIRE):
+            ends = compress(ends, map(EXPIRE.__ne__, self.codes))
+        names = self.of_names.names
+        return [names[it] for it in dict.fromkeys(chain.from_iterable(ends))]
+
     def rows(self) -> List[Row]:
         kinds, names = self.of_kinds.names.__getitem__, self.of_names.names.__getitem__
         rows: Any = zip(self.codes, map(kinds, self.kinds), map(names, self.sources), map(names, self.targets), self.weights,
@@ -179,6 +187,17 @@ class Operations:
         rows = [it for it in self.rows if it[0] < REMOVE]
         return len({*names, *(it[2] for it in rows), *(it[3] for it in rows)}), len({*kinds, *(it[1] for it in rows)})
 
+    def vertices(self) -> List[str]:
+        """The vertices that the operations name, each once, in their order. (Which edges expire they don't say.)"""
+        return self.names_of_vertices()()
+
+    def names_of_vertices(self) -> "Callable[[], List[str]]":
+        """What gives them, which keeps of rows no more than the names."""
+        if self._rows is None:
+            return self.columns.vertices
+        names = vertices_of(self._rows)
+        return lambda: names
+
     @property
     def expires(self) -> bool:
         """Whether an operation expires edges; then the batch asks for the used blocks too."""
@@ -192,6 +211,11 @@ class Operations:
     def text(self) -> bytes:
         """Their records, one line each."""
         return records_of(self.rows).encode("ascii")
+
+
+def vertices_of(rows: Iterable[Row]) -> List[str]:
+    """The vertices that operations name, each once, in their order."""
+    return list(dict.fromkeys(chain.from_iterable([it[2:4] for it in rows if it[0] != EXPIRE])))
 
 
 class Quoted(Dict[str, str]):

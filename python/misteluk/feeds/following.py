@@ -10,21 +10,23 @@ from types import TracebackType
 from typing import TYPE_CHECKING, Any, Callable, Deque, Iterator, List, Mapping, Optional, Tuple, Type, Union
 
 from ..values import records
-from ..errors import BadRows, FeedFault, NoAnswer, PoolEmpty, Refused, StoreError, Uncommitted, refusal
+from ..errors import BadRows, FeedFault, Refused, StoreError, Uncommitted
 from .advice import Reading, advise
 from .calls import Calls
 from .feed import Block, Feed, Path, part_of, turned
 from .growing import MOST_READ, Begin, DelimitedRows, Growing, Incoming, Opened, Rows, SnapRows
 from .surveys import Count, must_be_way
 from .opening import ReadAs, form_of
+from ..engine.calling import MOST_AT_ONCE
 from ..engine.guard import noting
-from ..engine.operations import EXPIRY
+from ..engine.operations import EXPIRY, vertices_of
 from .progress import Progress
 from .rejects import Bin, Keeps, Rejected, Rejects
 from .rotation import Standing, mark_of
 from .spans import Span, ahead_time, kept_time, seconds_of
-from .steps import FeedMark, FeedPlace, Followed, Pace, Recipe
+from .steps import FeedMark, FeedPlace, Followed, Pace, Recipe, not_in
 from .terms import Terms
+from .touched import On, Teller
 
 if TYPE_CHECKING:
     from ..store import Store
@@ -64,7 +66,8 @@ class Following(Iterator[Followed]):
         # Which file it is, where one is followed, and how far a store's file had it in at first.
         self.mark: Optional[FeedMark] = None
         self.resumed = FeedPlace()
-        # The step that was made and isn't given yet.
+        # Who is told of each batch, and the step that was made and isn't given yet.
+        self.teller = Teller(None)
         self._made: Deque[Followed] = deque()
         self._ending: Optional[Exception] = None
         self._is_stopped = self._is_done = False
@@ -105,6 +108,8 @@ class Following(Iterator[Followed]):
             self._pass_over(self.resumed)
             if self.rejects is not None:
                 self.rejects.go_on(self.resumed.rejects)
+            if self.teller.on is not None:
+                self.teller.tell_again(self.store, self.mark)
 
     @property
     def _reads_again(self) -> bool:
@@ -225,12 +230,14 @@ class Following(Iterator[Followed]):
 
     def _go_on(self) -> None:
         """Reads what is there, or commits, where no step waits to be given. Runs in the thread, so that nothing breaks it off."""
+        self.teller.tell(self._made)
         if self._made:
             return
         if not self._is_due():
             self._fill() if self._blocks else self._read()
         if self._is_due():
-            self._made.append(self._commit())
+            self._commit()
+            self.teller.tell(self._made)
         elif self._is_ending and not self._blocks and not self._lines:
             if self._ending is not None:
                 raise self._ending
@@ -299,23 +306,27 @@ class Following(Iterator[Followed]):
         self._blocks.clear()
         return part_of(right, slice(0, sum(it < line for it in right.lines)))
 
-    def _commit(self) -> Followed:
-        """Commits what is pending. Where that is refused or not answered all of it is pending still."""
+    def _commit(self) -> None:
+        """Commits what is pending, which is to be told. Where that is refused or not answered all of it is pending still."""
         bound = self._newest - (self._pace.keep or 0)
         if self._pace.keep is not None and bound > 0 and not self._has_expiry:
             self._has_expiry = True  # (a batch that is sent again has its own)
             self._ledger.pending.append((*EXPIRY, bound))
         pending = self.store.pending
+        names = [] if self.teller.on is None else vertices_of(self._ledger.pending)
         try:
-            receipt = self._ledger.commit(True, records.MOST_OPERATIONS, self._told_place())
+            # (where a file keeps how far the feed is in they are one batch, a caller's own operations too: so none is in without)
+            most = records.MOST_OPERATIONS if self.mark is None else MOST_AT_ONCE
+            receipt = self._ledger.commit(True, most, self._told_place())
             self._ledger.taken.append(self._ledger.telling)
         except StoreError as fault:
-            raise self._with_rows(fault, self.store.pending < pending) from fault
+            raise not_in(fault, self.name, self._lines, self._in, self.store.pending < pending) from fault
         self._take_in()
         newest = self._count.terms.units._time_to_user(self._newest)
         # (without that a bad row ends the feed, which is told then)
         skipped = (self._count.bad, self._count.last_bad) if self._pace.skip_bad else (0, None)
-        return Followed(receipt, self._in, skipped[0], self._line, newest, skipped[1], self._source.behind)
+        step = Followed(receipt, self._in, skipped[0], self._line, newest, skipped[1], self._source.behind)
+        self.teller.put(receipt.version, map(self._terms.names.to_user, names), step)
 
     def _told_place(self) -> Optional[str]:
         """How far the feed is in with what is pending, as a store's file has it."""
@@ -326,20 +337,6 @@ class Following(Iterator[Followed]):
     def _take_in(self) -> None:
         self._in, self._line, self._lines = self._in + len(self._lines), self._lines[-1], []
         self._has_expiry = False
-
-    def _with_rows(self, fault: StoreError, applied: bool) -> StoreError:
-        """The fault, with the rows that aren't in; not all of them are where something was applied, as a caller's own batch."""
-        rows = f"{len(self._lines)} rows of {self.name}, lines {self._lines[0]} to {self._lines[-1]},"
-        stands = f"{rows} are not {'all ' if applied else ''}in, and pending still; {self._in} rows before them are in"
-        if isinstance(fault, PoolEmpty):
-            free = "" if fault.free is None else f", and {fault.free} are free"
-            text = f"{stands}. The batch needs {fault.needed} free blocks{free}"
-            return PoolEmpty(needed=fault.needed, free=fault.free, text=text, advice=fault.advice)
-        if isinstance(fault, Refused):
-            return refusal(fault.word, stands, advice=fault.advice)
-        if isinstance(fault, NoAnswer):
-            return NoAnswer(f"{fault}; {rows} were sent, and the {self._in} rows before them are in")
-        return type(fault)(f"{fault}; {stands}")
 
     def __enter__(self) -> Following:
         return self
@@ -354,7 +351,8 @@ class Following(Iterator[Followed]):
 
 def follow(store: Store[Any, Any], feed: Union[Path, Opened], *, by: str, every: Span = 1.0, keep: Optional[Span] = None,
            ahead: Optional[Span] = None, batch: int = records.MOST_OPERATIONS, until_end: bool = False,
-           skip_bad: bool = False, rejects: Optional[Path] = None, progress: Optional[bool] = None, **read_as: Any) -> Following:
+           skip_bad: bool = False, rejects: Optional[Path] = None, progress: Optional[bool] = None, on: On = None,
+           **read_as: Any) -> Following:
     """Follows a feed into a store. See `Store.follow`. One row with a time far ahead would remove all that is older, and a late
     row sets its edge's time back. Of a file its first bytes that were read, and the last ones, are looked at again with more of
     it; one that is replaced isn't followed into the new one."""
@@ -375,6 +373,7 @@ def follow(store: Store[Any, Any], feed: Union[Path, Opened], *, by: str, every:
     kept_rows = None if rejects is None else Rejects(rejects, how.encoding, place)
     path, mark = (feed.path, feed.mark) if isinstance(feed, Standing) else (None, None)
     following = following_of(store, feed, Recipe(form, by, batch, until_end, pace, path), terms, progress, kept_rows)
+    following.teller.on = on
     try:
         following._resume(store._engine.feeds, mark)
     except FeedFault:

@@ -8,6 +8,7 @@ from typing import Any, Callable, List, Mapping, NamedTuple, Optional, Sequence,
 
 from .opening import ReadAs
 from .rejects import Rejected
+from ..errors import NoAnswer, PoolEmpty, Refused, StoreError, refusal
 from ..values.answers import Commit
 
 
@@ -38,6 +39,22 @@ class Followed:
                   (self.bad, "bad rows passed over")]
         told = ", ".join(f"{count} {word}" for count, word in counts if count) or "nothing changed"
         return f"version {done.version}: {self.rows} rows to line {self.line}, {told}; newest {self.newest}"
+
+
+def not_in(fault: StoreError, name: str, lines: Sequence[int], before: int, applied: bool) -> StoreError:
+    """The fault of a commit, with the rows of a feed that aren't in, by their lines, behind so many that are; not all of them are
+    where something was applied, as a caller's own batch."""
+    rows = f"{len(lines)} rows of {name}, lines {lines[0]} to {lines[-1]},"
+    stands = f"{rows} are not {'all ' if applied else ''}in, and pending still; {before} rows before them are in"
+    if isinstance(fault, PoolEmpty):
+        free = "" if fault.free is None else f", and {fault.free} are free"
+        text = f"{stands}. The batch needs {fault.needed} free blocks{free}"
+        return PoolEmpty(needed=fault.needed, free=fault.free, text=text, advice=fault.advice)
+    if isinstance(fault, Refused):
+        return refusal(fault.word, stands, advice=fault.advice)
+    if isinstance(fault, NoAnswer):
+        return NoAnswer(f"{fault}; {rows} were sent, and the {before} rows before them are in")
+    return type(fault)(f"{fault}; {stands}")
 
 
 class Pace(NamedTuple):

@@ -16,9 +16,9 @@ from .beside import Beside
 from .compaction import FileCompacted, History, drop_old, first_kept, write_base
 from .journal import Entry, Journal
 from .passing import Passing
-from .recovery import State
+from .recovery import State, last_of_feed
 from .scripts import Writer
-from .tables import Settings, Written
+from .tables import NO_SUM, Settings, Written
 from ..engine.calling import LibraryFlight
 from ..engine.guard import Guard, alone
 from ..engine.held import LibraryVersion
@@ -26,6 +26,7 @@ from ..engine.operations import Operations
 from ..engine.protocol import Denied, Held
 from ..errors import ReadOnly, SequenceTaken, StoreError
 from ..values.answers import Collected, Commit, Compacted, Stat
+from ..feeds.steps import FeedMark
 from ..feeds.terms import Terms
 
 
@@ -245,6 +246,17 @@ class Journaled(Passing):
     def some_rows(self, after: int, last: int) -> List[Written]:
         """The batches behind a version, up to another one, or the first ones of them."""
         return self._journal.some_rows(after, last)
+
+    def last_of_feed(self, mark: FeedMark) -> Optional[Tuple[int, Operations]]:
+        """The batch that brought a followed feed to this place, with its version; `None` where the file has it no more."""
+        return self._journal.read(lambda opened: last_of_feed(opened, mark))
+
+    def sum_of(self, version: int) -> Optional[str]:
+        """The sum of the batch that made a version, which tells it from each other one of this number; `None` where the file has
+        no such version any more."""
+        words = "SELECT sum FROM batches WHERE version=? UNION ALL SELECT sum FROM bases WHERE version=?"
+        found = [(NO_SUM,)] if version == 0 else self._journal.rows(words, version, version)
+        return found[0][0].hex() if found else None
 
     def newest_base(self) -> "Optional[Tuple[Sequence[Any], Dict[str, bytes]]]":
         """The newest base as it is written, with its version before its row; `None` where there is none."""

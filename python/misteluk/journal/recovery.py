@@ -5,7 +5,7 @@ import json
 import sqlite3
 from contextlib import closing
 from dataclasses import dataclass, field
-from typing import Dict, Generator, Iterable, Iterator, List, Optional, Sequence
+from typing import Dict, Generator, Iterable, Iterator, List, Optional, Sequence, Tuple
 
 from .bases import Base, read_base
 from .joining import checked, joined, parted
@@ -13,9 +13,11 @@ from .scripts import operations_of
 from .sources import Sources
 from .tables import NO_SUM, OF_BATCH, Head, Written, read_head
 from ..engine.openings import as_batches, may_open, most_blocks
+from ..engine.operations import Operations
 from ..engine.protocol import Denied
 from ..engine.waiting import WaitingEngine
 from ..errors import JournalFault
+from ..feeds.steps import FeedMark
 from ..values.answers import Commit
 
 # How many bytes of records are read at once at most, or those of one batch.
@@ -158,6 +160,16 @@ def rows_of(opened: sqlite3.Connection, after: int, last: int) -> Generator[Writ
     words = f"SELECT {OF_BATCH} FROM batches WHERE version>? AND version<=? ORDER BY version LIMIT ?"
     rows = opened.execute(words, (after, last, last - after))
     return (Written(*it) for it in rows)
+
+
+def last_of_feed(opened: sqlite3.Connection, mark: FeedMark) -> Optional[Tuple[int, Operations]]:
+    """The batch that brought a followed feed to this place, with its version; `None` where the file has it no more."""
+    words = "SELECT version, feed FROM batches WHERE feed IS NOT NULL AND operations>0 ORDER BY version DESC"
+    for version, feed in opened.execute(words):
+        found = FeedMark.read(feed)
+        if (found.file, found.begin, found.place) == (mark.file, mark.begin, mark.place):
+            return version, operations_of(next(rows_of(opened, version - 1, version)).records)
+    return None
 
 
 def some(rows: Iterator[Written]) -> List[Written]:

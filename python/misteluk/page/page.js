@@ -57,6 +57,13 @@
         show();
     };
 
+    // (and may say which one is to be kept, as where this page takes the place of one that is older)
+    addEventListener("message", (event) => {
+        if (parent === window || event.source !== parent || typeof event.data?.pin !== "string") return;
+        const row = vertexRows.find((it) => it.dataset.name === event.data.pin);
+        if (row !== undefined && pinned?.vertex !== row.dataset.vertex) pin(row.dataset.vertex);
+    });
+
     for (const it of [...vertices, ...vertexRows]) {
         const vertex = it.dataset.vertex;
         it.addEventListener("mouseenter", () => point({ vertex }));

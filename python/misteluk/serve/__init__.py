@@ -26,4 +26,8 @@ Choices:
 - Without a token the `Host` must name this machine, because a browser may be led here under another name.
 - A view runs in a frame that may run its own script only, known by its sum, and that can't ask the server anything.
 - A lost answer is asked for again, of the same version; no part of it is kept to go on from.
+- What a batch touched are the vertices that its rows name: that costs no look at the graph. A row that changed nothing names its
+  ends too, and edges that expired name none.
+- An event's id has the sum of its version's batch, where a store's file has that: it tells a version from another file's of the
+  same number. So a reader resumes over a restart, and what isn't known is told as unknown, and never as nothing.
 """

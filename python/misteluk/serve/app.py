@@ -16,18 +16,19 @@ from .asking import ASK, OF_FEW, Answers, Shortcut
 from .bodies import loaded, rows_of_csv, rows_of_json
 from .board import Board, Full, Lease
 from .faults import told_fault
-from .feeding import Feeding
+from .feeding import Feeding, place_of
 from .gate import Run
 from .health import Health
 from .keeping import Keeper
 from .flow import CALL, PERSON, Pool, Shares, Streamed, as_json, first_of, within
 from .limits import BODIES, LITTLE, ServerLimits, TooLarge
 from .openapi import AFTER, CALLS, described
-from .news import LONGEST, Bell, Events, known_of
+from .news import LONGEST, Bell, Events, Told
 from .page import FILES, POLICY, VIEWED
 from .people import People, Person
 from .posts import WaitingPost
 from .questions import AT_ONCE, HELD, QUESTIONS, QUICK, WHOLE, Parameter, ServedQuestion
+from .recent import Known
 from .several import Several
 from .tables import AS_CSV, CSV, wants_csv
 from .turns import Turns
@@ -85,6 +86,7 @@ class Api:
                 ("POST", "/v1/sessions", self.hold),
                 ("PUT", "/v1/sessions/{session}", self.keep), ("DELETE", "/v1/sessions/{session}", self.let_go)]
         others = [("GET", "/v1/stat", self.stat), ("GET", "/v1/events", self.events), ("GET", "/v1/log", self.log),
+                  ("GET", "/v1/rate", self.rate),
                   ("POST", "/v1/ask", self.several),
                   ("GET", "/v1/sessions", self.sessions),
                   ("POST", "/v1/feeder", self.claim), ("DELETE", "/v1/feeder/{feeder}", self.leave),
@@ -119,7 +121,7 @@ class Api:
                     await self.board.precedence.turn()
                 return await handle(request)
             except (StoreError, Denied, ValueError, TypeError) as fault:
-                return told_fault(fault, request.scope)
+                return told_fault(fault, request.scope, place_of(self.store))
             except ClientDisconnect:  # (nobody reads it)
                 return Response(status_code=400)
             finally:
@@ -132,7 +134,7 @@ class Api:
         async def handle(request: Request) -> Any:
             if _ZONE_OR_TIME.search(request.url.query):
                 raise ValueError("a + in an address stands for a space: write %2B before a zone, and T before a time of day")
-            given, person = question.given(request.query_params.multi_items(), HELD), _person(request)
+            given, person = question.given(request.query_params.multi_items(), question.held), _person(request)
             is_csv = question.columns != () and wants_csv(request.headers.get("accept", ""))
             given = {**given, **({AS_CSV: True} if is_csv else {})}
             return await self._answered(lambda headers: self._parts(question, given, person, headers),
@@ -140,14 +142,14 @@ class Api:
         return handle
 
     def _parts(self, question: ServedQuestion, given: Dict[str, Any], person: Person, headers: Dict[str, str]) -> Iterator[bytes]:
-        beside = given.get("beside")
-        with self.board.lent(given.get("session"), given.get("version"), person) as session:
+        of, beside = question.versions
+        with self.board.lent(given.get("session"), given.get(of), person) as session:
             headers["misteluk-version"] = str(session.version)
-            if beside is None:
+            if given.get(beside) is None:
                 yield from question.answer(session, given)
                 return
-            with self.board.lent(version=beside) as other:
-                yield from question.answer(session, {**given, "beside_session": other})
+            with self.board.lent(version=given[beside]) as other:
+                yield from question.answer(session, {**given, "other": other})
 
     async def several(self, request: Request) -> Any:
         """Several questions of one version."""
@@ -202,15 +204,24 @@ class Api:
         return as_json(await self.quick.run(lambda: told_added(journaled, after)))
 
     async def events(self, request: Request) -> Events:
-        """Each version's counts, as events sent by the server."""
-        people, changes = self.people, self.people.changes
-        return Events(self.bell, self.board, self._counted, self._run.name, self.limits, lambda: bool(people.changes == changes),
-                      known_of(request, self._run.name))
+        """Each version's counts and the vertices that its batches touched, as events sent by the server."""
+        people, changes, recent = self.people, self.people.changes, self.board.recent
+        known = Known.read(request.headers.get("last-event-id", ""))
+        is_known = await self.quick.run(lambda: recent.is_known(known, self._run.name))
+        return Events(self.bell, self.board, self._event, self.limits, lambda: bool(people.changes == changes),
+                      known.version if known is not None and is_known else None)
 
-    def _counted(self) -> Dict[str, Any]:
-        stat, rate = self.board.stat, self.feeding.rate
-        return {"version": stat.version, "vertices": stat.vertices, "edges": stat.edges, "rows": rate.total,
-                "rows_a_second": round(rate.a_second(), 1)}
+    async def _event(self, after: Optional[int]) -> Told:
+        """The event of the last version, for who knows one before it."""
+        stat, rate, recent = self.board.stat, self.feeding.rate, self.board.recent
+        told = {"version": stat.version, "vertices": stat.vertices, "edges": stat.edges, "rows": rate.total,
+                "rows_a_second": round(rate.a_second(), 1), "expired": self.feeding.expired}
+        mark, touched = await self.quick.run(lambda: (
+            recent.mark_of(stat.version, self._run.name), None if after is None else recent.since(after, stat.version)))
+        return Known(mark, stat.version).written(), {**told, "touched": touched}
+
+    async def rate(self, request: Request) -> Response:
+        return as_json(self.feeding.rate.told())
 
     async def description(self, request: Request) -> Response:
         return as_json(described())

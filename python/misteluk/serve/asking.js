@@ -21,16 +21,16 @@ export const ask = async (path, method = "GET", more = {}) => {
     return answer;
 };
 
-// What the last refresh met, that the held version is lost, and what the user's acts met: their faults stay until she acts
+// What the last refresh met, that the held version is lost, why what is looked at doesn't follow the newest version, and what the user's acts met: their faults stay until she acts
 // again, whatever is refreshed meanwhile, and the loss until she holds another version.
-export const faults = { refresh: "", lost: "", acts: [] };
+export const faults = { refresh: "", lost: "", live: "", acts: [] };
 export const tell = () => {
-    const text = [...new Set([faults.refresh, faults.lost, ...faults.acts])].filter((it) => it !== "").join("\n");
+    const text = [...new Set([faults.refresh, faults.lost, faults.live, ...faults.acts])].filter((it) => it !== "").join("\n");
     the("fault").hidden = text === "";
     if (the("fault").textContent !== text) the("fault").textContent = text;
 };
-export const refreshing = (act) => async () => {
-    faults.refresh = await act().then(() => "", (fault) => fault.message);
+export const refreshing = (act, what = "refresh") => async () => {
+    faults[what] = await act().then(() => "", (fault) => fault.message);
     tell();
 };
 export const acting = (act) => async (event) => {

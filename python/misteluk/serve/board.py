@@ -12,6 +12,7 @@ from typing import Any, Callable, Deque, Dict, Iterator, List, NamedTuple, Optio
 from .limits import ServerLimits
 from .people import EVERYONE, Person
 from .precedence import Precedence
+from .recent import Recent
 from ..errors import SessionClosed, StoreError
 from ..session import Session
 from ..store import Store
@@ -71,7 +72,8 @@ class LeaseTold(NamedTuple):
 
 class Board:
     """The versions of a store that are held. Whoever feeds the store calls `advance` behind each commit; so a question for the
-    last version never waits for the feed. It is always held, whatever clients hold; those are `versions` at most."""
+    last version, the newest one that was published, never waits for the feed. It is always held, whatever clients hold; those are
+    `versions` at most."""
 
     def __init__(self, store: "Store[Any, Any]", limits: ServerLimits, clock: Callable[[], float] = time.monotonic) -> None:
         self.store, self.limits, self._clock = store, limits, clock
@@ -85,12 +87,17 @@ class Board:
         self._last = Shared(store.open())
         # What is called when there is another last version.
         self.ring: Callable[[], None] = lambda: None
-        self.precedence = Precedence()
+        self.precedence, self.recent = Precedence(), Recent(store)
+        store._ledger.noted = self.recent.note
         self._held: Dict[int, Shared] = {self._last.version: self._last}
 
     def advance(self) -> None:
-        """Holds the last version in the place of the one before. (A store may begin anew for that: nobody waits for it but the
-        feed.)"""
+        """Holds the last version in the place of the one before, unless versions are published at intervals."""
+        if not self.limits.publish:
+            self.publish()
+
+    def publish(self) -> None:
+        """The same now. (A store may begin anew for that: nobody waits for it but the feed.)"""
         with self._turn:
             stat = self.store.stat()
             if stat.version == self._last.version:

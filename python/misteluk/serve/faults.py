@@ -9,16 +9,17 @@ from . import wire
 from .board import Full
 from .flow import WORD, as_json
 from .limits import TooLarge
+from .log import without_paths
 from ..engine.protocol import Denied
-from ..errors import TABLE, Refused, StoreError
+from ..errors import TABLE, JournalError, Refused, StoreError
 
 # What is told of names that a version doesn't have.
 REASONS = {"NoVertex": "the version has no vertex of this name; a later one may",
            "NoKind": "the version has no edge of this kind, and never had; a later one may"}
 
 
-def told_fault(fault: Exception, scope: MutableMapping[str, Any]) -> Response:
-    """A fault as a client is told it, whose request notes its word."""
+def told_fault(fault: Exception, scope: MutableMapping[str, Any], place: str = "") -> Response:
+    """A fault as a client is told it, whose request notes its word; not where the store's file is, which is at this place."""
     scope[WORD] = "TooLarge" if isinstance(fault, TooLarge) else status_and_word(fault)[1]
     if isinstance(fault, Full):
         return as_json(wire.fault(fault.word, str(fault), fault.after), 503, {"retry-after": str(fault.after)})
@@ -29,7 +30,9 @@ def told_fault(fault: Exception, scope: MutableMapping[str, Any]) -> Response:
     if isinstance(fault, Denied) and fault.stat is not None:
         stat = dict(vars(fault.stat))
         more["stat"] = {"names": stat.pop("vertices"), **stat}
-    return as_json(wire.fault(word, told_of(fault, word), **more), status)
+    told = told_of(fault, word)
+    told = without_paths(told, place, "the store's file") if isinstance(fault, JournalError) else told
+    return as_json(wire.fault(word, told, **more), status)
 
 
 def told_of(fault: Exception, word: str) -> str:

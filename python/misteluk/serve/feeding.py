@@ -16,6 +16,7 @@ from .limits import ServerLimits, TooLarge
 from .log import without_paths
 from .people import EVERYONE, Person
 from .posts import WaitingPost
+from .rate import Rate
 from .readers import Others, Readers
 from ..engine.calling import MOST_AT_ONCE
 from ..engine.operations import Operations, Post, Row, row_of
@@ -25,35 +26,13 @@ from ..feeds.apart import Applied, Apart
 from ..feeds.feed import parts_of
 from ..feeds.following import Following
 from ..journal.engine import Journaled
+from ..store import Store
 from ..values import records
 from ..values.answers import Commit, sum_of
 from ..values.names import is_plain
 
 # Of how many clients that fed before it is remembered what their last batch did.
 FEEDERS = 100
-# Over how many seconds the feed's rate is told.
-RATED = 10.0
-
-
-class Rate:
-    """How many rows came in of late."""
-
-    def __init__(self, clock: Callable[[], float]) -> None:
-        self._clock, self._begun = clock, clock()
-        self._rows: Deque[Tuple[float, int]] = deque()
-        self.total = 0
-
-    def add(self, rows: int) -> None:
-        self.total += rows
-        self._rows.append((self._clock(), rows))
-        while len(self._rows) > 2 and self._rows[0][0] < self._clock() - RATED:
-            self._rows.popleft()
-
-    def a_second(self) -> float:
-        """Rows a second, over the last ten seconds."""
-        now = self._clock()
-        rows = sum(rows for when, rows in list(self._rows) if when >= now - RATED)
-        return rows / min(max(now - self._begun, 1.0), RATED)
 
 
 class Feeder:
@@ -98,7 +77,9 @@ class Feeding:
         self.state = "ended" if fault is None else "failed"
         if fault is None:
             return
-        self.fault, self.reason = getattr(fault, "word", "") or type(fault).__name__, without_paths(str(fault), following.name)
+        place = place_of(self.store)
+        told = str(fault).replace(place, "the store's file") if place else str(fault)
+        self.fault, self.reason = getattr(fault, "word", "") or type(fault).__name__, without_paths(told, following.name)
         is_meant = isinstance(fault, (StoreError, ValueError, OSError))
         log.fault(f"the feed ended: {fault}", None if is_meant else fault, f"the feed ended: {self.reason}")
         self.store.discard()
@@ -177,6 +158,11 @@ class Feeding:
                 feeder.receipt, feeder.number = None, number
             return feeder.receipt
 
+    def publish(self) -> None:
+        """Has what was fed become the newest version, but no part of a post."""
+        with self._lock:
+            self.board.publish()
+
     def _take_texts(self, texts: Mapping[str, str]) -> None:
         """Takes the texts of ids, which are made of them: no client can tell another text for one."""
         names = self.store._ledger.terms.names
@@ -196,6 +182,7 @@ class Feeding:
         return receipt
 
     def _count(self, operations: Operations, receipt: Commit) -> None:
+        self.board.recent.note(receipt.version, operations)
         self.rate.add(operations.size)
         self.expired += receipt.expired
 
@@ -347,6 +334,11 @@ class Feeding:
         self.readers.stop()
         with self._lock:  # (which a batch has as long as it is being applied)
             pass
+
+
+def place_of(store: "Store[Any, Any]") -> str:
+    """Where a store's file is; nothing for a store without."""
+    return store._engine.place if isinstance(store._engine, Journaled) else ""
 
 
 @contextmanager

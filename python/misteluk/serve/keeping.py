@@ -73,7 +73,7 @@ class Keeper:
     def save_last(self, board: Board) -> None:
         """Saves at the end, when no more rows come in."""
         try:
-            board.advance()  # (which may have failed behind the last batch)
+            board.publish()  # (which may have failed behind the last batch)
             self.save(board)
         except Exception as fault:
             self.save(board)

@@ -1,6 +1,8 @@
 """What a server allows its clients."""
 from __future__ import annotations
 
+import os
+from contextlib import suppress
 from typing import NamedTuple
 
 from ..values.limits import within
@@ -21,6 +23,9 @@ BODIES, MOST_ROWS = 8, 1_000_000
 MOST_VALUES = 1 << 16
 # How many questions one request may have.
 MOST_QUESTIONS = 100
+# For how many bytes of memory clients may hold a version where nothing is said, of how many at least and at most; and where the
+# system tells how many a container has.
+FOR_EACH, LEAST_VERSIONS, MOST_VERSIONS, OF_CONTAINER = 64 << 20, 16, 1_024, "/sys/fs/cgroup/memory.max"
 # Within how many seconds a connection has to ask something that is let in, and how many that asked nothing yet a peer may have.
 FIRST, STRANGERS = 10.0, 256
 # Where a server listens, and how often it saves, if nothing is said; and how lines of its log may be written.
@@ -40,7 +45,8 @@ class ServerLimits(NamedTuple):
     sessions there may be. `body`: how many bytes a request's body may have. `time`: how many seconds a question may take.
     `questions`: how many questions that go over the whole graph are answered at once, and a hundred times as many may wait.
     `versions`: how many versions clients may hold, besides the newest. `each`: how many questions one person may have under way,
-    where the server knows people by their tokens."""
+    where the server knows people by their tokens. `publish`: every how many seconds what was fed becomes the newest version, so
+    that those who come meanwhile share one; 0 is behind each batch."""
 
     idle: float = 60.0
     clients: int = 1_000
@@ -49,6 +55,7 @@ class ServerLimits(NamedTuple):
     questions: int = 4
     versions: int = 64
     each: int = 100
+    publish: float = 0.0
 
     def checked(self) -> "ServerLimits":
         """Itself; raises `ValueError` where one of them is out of range."""
@@ -60,4 +67,15 @@ class ServerLimits(NamedTuple):
         for name in ("idle", "time"):
             if not 0 < getattr(self, name) <= 1e6:
                 raise ValueError(f"{name} is a number of seconds above 0, and not {getattr(self, name)}")
+        if not 0 <= self.publish <= 1e6:
+            raise ValueError(f"publish is a number of seconds from 0 on, and not {self.publish}")
         return self
+
+
+def versions_by_memory() -> int:
+    """How many versions clients may hold by the memory that this process may have: one for so many bytes of it."""
+    size = os.sysconf("SC_PHYS_PAGES") * os.sysconf("SC_PAGE_SIZE")
+    with suppress(OSError, ValueError):  # (that of a container, where there is one that has a limit)
+        with open(OF_CONTAINER, encoding="ascii") as file:
+            size = min(size, int(file.read()))
+    return min(max(size // FOR_EACH, LEAST_VERSIONS), MOST_VERSIONS)

@@ -1,6 +1,7 @@
 // The page of a server: what the store holds, and who holds which version.
 import { acting, ask, element, faults, number, refreshing, tell, the } from "./asking.js";
 import { begin, know as knowVersion } from "./looking.js";
+import { begin as beginRates } from "./rates.js";
 
 // The version that this page holds, which a reload of it finds again, and when the server answered last.
 let held = JSON.parse(sessionStorage.getItem("held")), keeping = null, answered = new Date();
@@ -53,6 +54,7 @@ const begun = () => {
     if (hasBegun) return;
     hasBegun = true;
     keep().then(later);
+    beginRates();
     dispatchEvent(new Event("hashchange"));
 };
 const look = refreshing(async () => {

@@ -1,14 +1,18 @@
 // What one looks at: a neighborhood, a table or a path. Each has an address, which a colleague can open.
-import { acting, ask, element, number, the } from "./asking.js";
+import { acting, ask, element, faults, number, refreshing, the } from "./asking.js";
 
 // The tables that there are: the question that has each, its column, and how that column is called.
 const tables = {
     out: ["degrees?by=out&", "out", "edges out"], into: ["degrees?by=into&", "into", "edges in"],
     weight: ["degrees?by=weight_out&", "weight_out", "weight out"], weights_in: ["weights_in?", "weight_in", "weight in"],
 };
-const filters = ["kind", "since", "until"], fields = { vertex: ["hops", "beside"], from: ["to"], top: [] };
+const filters = ["kind", "since", "until"], fields = { vertex: ["hops", "beside", "live"], from: ["to"], top: [] };
 const parts = { vertex: "view", from: "walk", top: "top" };
 let wait = null, looks = 0, last = 0;
+// What is looked at, by which version it was answered, and the vertex that was chosen in it.
+let seen = null, version = 0, chosen = "";
+
+const value = (it) => it.type === "checkbox" ? it.checked ? it.value : "" : it.value.trim();
 
 // What the address says, and the same in the fields that say it.
 const asked = () => new URLSearchParams(location.hash.slice(1));
@@ -21,7 +25,7 @@ const go = (given) => {
 };
 const given = (what) => {
     const names = [what, ...fields[what], ...filters];
-    const pairs = names.map((it) => [it, the(it).value.trim()]).filter(([it, text]) => text !== "" || it === what);
+    const pairs = names.map((it) => [it, value(the(it))]).filter(([it, text]) => text !== "" || it === what);
     return new URLSearchParams(pairs.filter(([it, text]) => it !== "beside" || Number(text) !== last));
 };
 const fill = (it) => {
@@ -31,8 +35,9 @@ const fill = (it) => {
         if (name === "beside" && ![...field.options].some((one) => one.value === text)) {
             field.append(element("option", `version ${text}`, { value: text }));
         }
-        field.value = text;
+        if (field.type !== "checkbox") field.value = text;
     }
+    the("live").checked = it.has("live");
     for (const name of filters) if (!it.has(name)) the(name).value = "";
     the("filters").open ||= filters.some((name) => it.has(name));
 };
@@ -41,6 +46,9 @@ const scope = (it) => new URLSearchParams(filters.filter((name) => it.has(name))
 // Those who look at another thing meanwhile see that one.
 const shown = async (what, title, made) => {
     const mine = ++looks;
+    seen = null;
+    faults.live = "";
+    the("next")?.remove();
     for (const it of Object.values(parts)) the(`${it}-part`).hidden = true;
     the("expand").hidden = true;
     the("view").hidden = true;
@@ -57,16 +65,39 @@ const shown = async (what, title, made) => {
 };
 const link = (name) => element("a", name, { href: `#${new URLSearchParams({ vertex: name, hops: the("hops").value })}` });
 
+// The page of a neighborhood, and which version it is of. (What is looked at isn't another one by being live.)
+const paged = async (it) => {
+    const known = ["hops", "beside", ...filters].filter((name) => it.has(name)).map((name) => [name, it.get(name)]);
+    const answer = await ask(`v1/view?${new URLSearchParams([["around", it.get("vertex")], ...known])}`);
+    return [await answer.text(), Number(answer.headers.get("misteluk-version"))];
+};
 const neighborhood = (it) => shown("vertex", it.get("vertex"), async () => {
-    const known = [...fields.vertex, ...filters].filter((name) => it.has(name));
-    const page = await (await ask(`v1/view?${new URLSearchParams([["around", it.get("vertex")], ...known.map((name) => [name, it.get(name)])])}`)).text();
+    const [page, of] = await paged(it);
     return () => {
         // (a frame of its own for each page: one that gets its page while it is hidden stays without a height in some browsers)
         const view = the("view").cloneNode();
         [view.hidden, view.style.height, view.srcdoc] = [false, "", page];
         the("view").replaceWith(view);
+        [seen, version, chosen] = [it, of, ""];
     };
 });
+// The same of the newest version: what is seen stays until the next page has told how high it is, so that nothing flickers.
+const follow = async () => {
+    const it = seen;
+    if (!it?.has("live") || the("view").hidden || version >= last || document.hidden) return;
+    const begun = Date.now(), [page, of] = await paged(it);
+    rest = Date.now() + 2 * (Date.now() - begun);
+    if (seen !== it) return;
+    the("next")?.remove();
+    const next = the("view").cloneNode();
+    [next.id, next.className, next.srcdoc] = ["next", "next", page];
+    the("view").after(next);
+    version = of;
+};
+const instead = (next, height) => {
+    the("view").remove();
+    [next.id, next.className, next.style.height] = ["view", "", height];
+};
 const walk = (it) => shown("from", `${it.get("from")} to ${it.get("to")}`, async () => {
     const more = new URLSearchParams([["source", it.get("from")], ["target", it.get("to")], ...scope(it)]);
     const told = await (await ask(`v1/path?${more}`)).json();
@@ -127,17 +158,32 @@ export const begin = () => {
     the("csv").addEventListener("click", save);
     the("vertex").addEventListener("input", () => { clearTimeout(wait); wait = setTimeout(find, 150); });
     the("expand").addEventListener("click", () => { the("vertex").value = the("expand").value; the("look").requestSubmit(); });
+    the("live").addEventListener("change", () => { if (!the("view").hidden) the("look").requestSubmit(); });
     // (the frame, which can do nothing else here, tells how high it is, and which vertex was chosen in it)
     addEventListener("message", (event) => {
+        const { height, chosen: name, opened } = event.data ?? {}, high = Number(height) > 0 && height < 100000;
+        const next = the("next");
+        if (next !== null && event.source === next.contentWindow && high) {
+            next.contentWindow.postMessage({ pin: chosen }, "*");
+            instead(next, `${Math.ceil(height) + 4}px`);
+        }
         if (event.source !== the("view").contentWindow) return;
-        const { height, chosen, opened } = event.data ?? {};
-        if (Number(height) > 0 && height < 100000) the("view").style.height = `${Math.ceil(height) + 4}px`;
+        if (high) the("view").style.height = `${Math.ceil(height) + 4}px`;
         if (typeof opened === "string") [the("expand").value, the("expand").hidden] = [opened, true];
         if (typeof opened === "string") the("expand").click();
-        if (typeof chosen === "string") {
-            [the("expand").value, the("expand").textContent, the("expand").hidden] = [chosen, `Expand ${chosen}`, chosen === ""];
+        if (typeof name === "string") {
+            chosen = name;
+            [the("expand").value, the("expand").textContent, the("expand").hidden] = [name, `Expand ${name}`, name === ""];
         }
     });
     addEventListener("hashchange", open);
 };
-export const know = (version) => { last = version; };
+const followed = refreshing(follow, "live");
+let rest = 0, isAt = false;
+// The server's last version is this one.
+export const know = async (number) => {
+    last = number;
+    if (isAt || Date.now() < rest) return;
+    isAt = true;
+    await followed().finally(() => { isAt = false; });
+};

@@ -1,11 +1,9 @@
-"""Those who await what comes next: a version above one that they know, or each version's counts as events."""
+"""Those who await what comes next: a version above one that they know, or each version as an event."""
 from __future__ import annotations
 
 import asyncio
 import json
-from typing import Any, Callable, Dict, Optional, Set
-
-from starlette.requests import Request
+from typing import Any, Awaitable, Callable, Dict, Optional, Set, Tuple
 
 from .board import Board
 from .flow import Receive, Send, Streamed, within
@@ -16,6 +14,8 @@ LONGEST, SILENCE = 25.0, 15.0
 # How many seconds are between two events at least: what came in meanwhile is one.
 PAUSE = 0.1
 EVENTS = "text/event-stream"
+# An event: its id, and what it tells.
+Told = Tuple[str, Dict[str, Any]]
 
 
 class Bell:
@@ -59,11 +59,11 @@ class Bell:
 
 class Events:
     """A stream of events: one for the last version, and then one for each that takes its place, if its reader keeps up. `known`
-    is the version that the reader knows, by `Last-Event-ID`."""
+    is the version that the reader knows, by `Last-Event-ID`; what is told of a later one, and by which id, `told` gives."""
 
-    def __init__(self, bell: Bell, board: Board, counts: Callable[[], Dict[str, Any]], run: str, limits: ServerLimits,
-                 is_let_in: Callable[[], bool], known: int) -> None:
-        self._bell, self._board, self._counts, self._run, self._limits = bell, board, counts, run, limits
+    def __init__(self, bell: Bell, board: Board, told: "Callable[[Optional[int]], Awaitable[Told]]", limits: ServerLimits,
+                 is_let_in: Callable[[], bool], known: Optional[int]) -> None:
+        self._bell, self._board, self._told, self._limits = bell, board, told, limits
         self._is_let_in, self._known = is_let_in, known
 
     async def __call__(self, scope: Any, receive: Receive, send: Send) -> None:
@@ -84,9 +84,9 @@ class Events:
         if not self._is_new():
             await self._say(send, ": \n\n")
             return
-        told = self._counts()
+        name, told = await self._told(self._known)
         self._known = told["version"]
-        await self._say(send, f"id: {self._run}:{self._known}\nevent: version\ndata: {json.dumps(told)}\n\n")
+        await self._say(send, f"id: {name}\nevent: version\ndata: {json.dumps(told)}\n\n")
         await asyncio.sleep(PAUSE)
 
     def _is_new(self) -> bool:
@@ -95,9 +95,3 @@ class Events:
     async def _say(self, send: Send, text: str) -> None:
         async with within(self._limits.idle, "the events aren't read"):
             await send({"type": "http.response.body", "body": text.encode("ascii"), "more_body": True})
-
-
-def known_of(request: Request, run: str) -> int:
-    """The version that a reader of events knows by its last event's id; below all where it is of another server, or of none."""
-    name, _, number = request.headers.get("last-event-id", "").partition(":")
-    return int(number) if name == run and number.isascii() and number.isdigit() and len(number) < 20 else -1

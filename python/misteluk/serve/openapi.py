@@ -31,8 +31,11 @@ AFTER = Parameter("after", "a version's number, above which the last one is awai
 CALLS: Dict[str, Dict[str, Call]] = {
     "/v1/stat": {"GET": Call("what the store holds, who holds which version, how fast it is fed, and which rows weren't taken; "
                              "with `after` as soon as there is a version above that one", schemas.STAT)},
-    "/v1/events": {"GET": Call("each version's counts, as events; a reader that comes again says its Last-Event-ID",
-                               schemas.TEXT, media="text/event-stream")},
+    "/v1/events": {"GET": Call("each version, as events of these data; a reader that comes again says its Last-Event-ID. "
+                               "`touched` has the vertices that the batches' rows named since the version that it knows, or of "
+                               "more than 1,000 how many; null where that isn't known",
+                               schemas.EVENT, media="text/event-stream")},
+    "/v1/rate": {"GET": Call("how many rows came in within each `step` seconds of the last hour", schemas.RATE)},
     "/v1/log": {"GET": Call("what a replica applies: the batches behind `after`, as soon as there are some; without that the "
                             "base to begin with", schemas.LOG, "admin")},
     "/v1/ask": {"POST": Call("several questions of one version, a hundred at most", schemas.SEVERAL)},
@@ -77,14 +80,14 @@ def _faults() -> Dict[str, Any]:
 
 def _question(it: ServedQuestion) -> Dict[str, Any]:
     media, *_ = it.media.partition(";")
-    more = {"found": schemas.WHOLE} if it.name == "names" else {}
-    content = {media: {"schema": schemas.table(it.columns, **more) if it.columns else schemas.ANSWERS[it.name]}}
+    schema = schemas.table(it.columns, **schemas.BESIDE.get(it.name, {})) if it.columns else schemas.ANSWERS[it.name]
+    content = {media: {"schema": schema}}
     if it.columns:
         content["text/csv"] = {"schema": schemas.TEXT}
     version = {"misteluk-version": {"schema": schemas.WHOLE, "description": "the version that was asked"}}
     answer = {"description": it.about, "headers": version, "content": content}
     return {"get": {"summary": it.about, "x-role": "read", "operationId": it.name,
-                    "parameters": list(map(_parameter, (*it.parameters, *HELD))), "responses": {"200": answer, **_faults()}}}
+                    "parameters": list(map(_parameter, (*it.parameters, *it.held))), "responses": {"200": answer, **_faults()}}}
 
 
 # What calls are asked with in their addresses, and their bodies.

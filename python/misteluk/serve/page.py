@@ -8,7 +8,7 @@ from ..page.page import script
 
 # The page and its parts, by their paths, with the media type of each.
 FILES = {"/": ("live.html", "text/html; charset=utf-8"), "/live.css": ("live.css", "text/css"),
-         **{f"/{name}": (name, "text/javascript") for name in ("live.js", "asking.js", "looking.js")}}
+         **{f"/{name}": (name, "text/javascript") for name in ("live.js", "asking.js", "looking.js", "rates.js")}}
 
 
 def _sum(text: str) -> str:

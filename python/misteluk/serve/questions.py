@@ -8,12 +8,15 @@ from .tables import Part, columns
 from ..page.view import MOST_DRAWN, MOST_HOPS, USUAL_DRAWN, view
 from ..session import Session
 from ..values.answers import OF_DEGREES, Answer, Edge, Values
+from ..values.diff import DIFF_HEADER, Diff
 from ..values.edges import Edges
 from ..values.texts import for_json
 
 Given = Mapping[str, Any]
 # How a question is answered: at once, or by threads, where one over the whole graph doesn't delay a quick one.
 AT_ONCE, QUICK, WHOLE = range(3)
+# The greatest number that SQLite has.
+MOST_NUMBER = (1 << 63) - 1
 
 
 class Parameter(NamedTuple):
@@ -32,7 +35,8 @@ class Parameter(NamedTuple):
             raise ValueError(f"{self.name} is one of {', '.join(self.choices)}")
         if self.least is None:
             return text
-        if not text.isascii() or not text.isdigit() or len(text) > 19 or not self.least <= int(text) <= (self.most or int(text)):
+        is_number = text.isascii() and text.isdigit() and len(text) < 20
+        if not is_number or not self.least <= int(text) <= (self.most or MOST_NUMBER):
             most = "" if self.most is None else f" to {self.most:,}"
             raise ValueError(f"{self.name} is a whole number from {self.least}{most}")
         return int(text)
@@ -49,6 +53,18 @@ class ServedQuestion(NamedTuple):
     columns: Tuple[str, ...] = ()
     way: int = WHOLE
     media: str = "application/json"
+    # Which of its parameters says the version that is asked, and which another one beside it.
+    versions: Tuple[str, str] = ("version", "beside")
+
+    @property
+    def held(self) -> Sequence[Parameter]:
+        """What says of which version it is asked, besides its own parameters."""
+        return HELD if self.versions[0] == HELD[1].name else ()
+
+    @property
+    def is_of_two(self) -> bool:
+        """Whether it may be asked of two versions."""
+        return self.versions[1] in {it.name for it in self.parameters}
 
     def given(self, pairs: Iterable[Tuple[str, str]], held: Sequence[Parameter]) -> Dict[str, Any]:
         """What it is asked with, by texts, and of which version. Raises `ValueError` where one is none or lacks."""
@@ -105,6 +121,32 @@ def edges_parts(found: Edges[Any, Any]) -> Dict[str, Part]:
             "recent": lambda a, b: units._all_times_to_user(found.recent[a:b])}
 
 
+def _below(parts: Sequence[Tuple[int, Optional[Part]]]) -> Part:
+    """Columns of so many rows each as one, below one another; where there is none the rows have nothing."""
+    def rows(first: int, end: int) -> List[Any]:
+        found: List[Any] = []
+        for count, part in parts:
+            begin, stop = max(first, 0), min(end, count)
+            if begin < stop:
+                found += [None] * (stop - begin) if part is None else part(begin, stop)
+            first, end = first - count, end - count
+        return found
+    return rows
+
+
+def difference(session: "Session[Any, Any]", found: Diff[Any, Any], earlier: int, given: Given) -> Iterator[bytes]:
+    """The edges that are gone, new and changed, in this order, as they were and as they are."""
+    counts = found.counts()
+    gone, new, before, after = map(edges_parts, (found.gone, found.new, found.before, found.after))
+    states = [state for state, count in counts.items() for _ in range(count)]
+    parts: Dict[str, Part] = {"state": _rows(states)}
+    ends, sizes = ("kind", "source", "target"), tuple(counts.values())
+    parts.update((it, _below(list(zip(sizes, (gone[it], new[it], before[it]))))) for it in ends)
+    parts.update((f"{it}_before", _below(list(zip(sizes, (gone[it], None, before[it]))))) for it in Edge._fields)
+    parts.update((f"{it}_after", _below(list(zip(sizes, (None, new[it], after[it]))))) for it in Edge._fields)
+    return columns({"version": session.version, "from": earlier, **counts}, sum(sizes), parts, given)
+
+
 def edges(session: "Session[Any, Any]", found: Edges[Any, Any], given: Given) -> Iterator[bytes]:
     """Edges: all of them, or those with the greatest weights."""
     if "top" in given:
@@ -151,6 +193,11 @@ def _in_edges(session: "Session[Any, Any]", given: Given) -> Iterator[bytes]:
     return edges(session, session.in_edges(given["target"], **_scope(given)), given)
 
 
+def _diff(session: "Session[Any, Any]", given: Given) -> Iterator[bytes]:
+    other: "Session[Any, Any]" = given["other"]
+    return difference(session, other.diff(session, **_scope(given)), other.version, given)
+
+
 def _path(session: "Session[Any, Any]", given: Given) -> Iterator[bytes]:
     return whole(session, {"path": session.path(given["source"], given["target"], **_scope(given))})
 
@@ -166,7 +213,7 @@ def _names(session: "Session[Any, Any]", given: Given) -> Iterator[bytes]:
 
 
 def _view(session: "Session[Any, Any]", given: Given) -> Iterator[bytes]:
-    made = view(session, given["around"], given.get("hops", 2), given.get("beside_session"), **_scope(given),
+    made = view(session, given["around"], given.get("hops", 2), given.get("other"), **_scope(given),
                 most=given.get("most", USUAL_DRAWN))
     yield made.html.encode("utf-8")
 
@@ -200,6 +247,10 @@ QUESTIONS = (
     ServedQuestion("components", "a label for each vertex, the same for those that edges join", SCOPE, _table("components"),
                    ("name", "label")),
     ServedQuestion("cores", "each vertex's core number", (*SCOPE, *TOP), _table("cores"), ("name", "core")),
+    ServedQuestion("diff", "the edges that are gone, new and changed from one held version to another",
+                   (Parameter("from", "the earlier version's number", True, 0),
+                    Parameter("to", "the later one's; else it is the last version", least=0), *SCOPE), _diff, tuple(DIFF_HEADER),
+                   versions=("to", "from")),
     ServedQuestion("names", "names of vertices that have a text", (Parameter("like", "a part of a name"), *TOP), _names,
                    ("name",)),
     ServedQuestion("view", "a page of a vertex's neighborhood, beside that of another version where one is said",

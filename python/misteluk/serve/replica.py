@@ -95,6 +95,9 @@ class Replica:
             else:
                 self._copy.take(added)
         finally:
+            for row in added.rows:
+                if row.version <= self._copy.state.version:
+                    board.recent.note_records(row.version, row.operations, row.records)
             take_over(self._copy, ledger)
             if self._copy.settings != before:
                 ledger.terms.units = units_of(self._copy.settings, ledger.terms.units)

@@ -5,7 +5,8 @@ from typing import Any, Dict, Sequence
 
 from .limits import ServerLimits
 from .board import HeldVersion, LeaseTold
-from ..values.answers import COUNTS
+from ..values.answers import COUNTS, Edge
+from ..values.diff import MOMENTS
 
 Schema = Dict[str, Any]
 WHOLE: Schema = {"type": "integer", "minimum": 0}
@@ -16,7 +17,12 @@ TRUTH: Schema = {"type": "boolean"}
 MARK: Schema = {"oneOf": [{"type": "number"}, {"type": "string"}]}
 # What is in each column of a table.
 _OF_COLUMN = {**dict.fromkeys(("weight", "first", "recent", "weight_out", "weight_in"), MARK),
-              **dict.fromkeys(("level", "out", "into", "core"), WHOLE)}
+              **dict.fromkeys(("level", "out", "into", "core"), WHOLE),
+              **dict.fromkeys((f"{it}_{when}" for it in Edge._fields for when in MOMENTS), {**MARK, "nullable": True}),
+              "state": {"type": "string", "enum": ["gone", "new", "changed"]}}
+# What a question's table has besides its columns.
+BESIDE: Dict[str, Dict[str, Schema]] = {
+    "names": {"found": WHOLE}, "diff": dict.fromkeys(("from", "gone", "new", "changed"), WHOLE)}
 
 
 def of(needed: Dict[str, Schema], **more: Schema) -> Schema:
@@ -60,6 +66,10 @@ STAT = of({
     "units": of({"weight_scale": WHOLE, "times": TEXT, "decimals": TEXT, "rounding": or_null(TEXT)})})
 SESSIONS = of({"sessions": rows_of(of({it: _OF_FIELD.get(it, WHOLE) for it in LeaseTold._fields}))})
 STATUS = of({"status": TEXT})
+RATE = of({"step": WHOLE, "age": NUMBER, "rows": rows_of(WHOLE), "total": WHOLE})
+# What an event has: `touched` is null where it isn't known what the batches behind a version touched, as for a new reader.
+EVENT = of({"version": WHOLE, "vertices": WHOLE, "edges": WHOLE, "rows": WHOLE, "rows_a_second": NUMBER, "expired": WHOLE,
+            "touched": or_null(of({"after": WHOLE, "count": WHOLE}, names=rows_of(TEXT)))})
 # What each question that has no table answers.
 ANSWERS = {"edge": of({"version": WHOLE, "edge": or_null(EDGE)}), "path": of({"version": WHOLE, "path": or_null(rows_of(TEXT))}),
            "view": TEXT}

@@ -180,6 +180,8 @@ class Server:
         beside = [threading.Thread(target=self._sweep, args=(sweeping,), name="sweeper", daemon=True)]
         if keeper is not None:
             beside.append(threading.Thread(target=keeper.run, args=(self.board,), name="keeper"))
+        if self.limits.publish:
+            beside.append(threading.Thread(target=self._publish, args=(sweeping,), name="publisher", daemon=True))
         for it in beside:
             it.start()
         if self.replica is not None:
@@ -218,6 +220,13 @@ class Server:
                 return
             except Exception as fault:
                 log.fault("sessions that were silent aren't let go", fault)
+
+    def _publish(self, is_over: threading.Event) -> None:
+        while not is_over.wait(self.limits.publish):
+            try:
+                self.feeding.publish()
+            except Exception as fault:  # (as memory that is short: it is tried again)
+                log.fault("the newest version isn't published", fault)
 
     def start(self) -> "Server":
         self._thread = threading.Thread(target=self.run, name="server")

@@ -15,7 +15,7 @@ from ..errors import StoreError
 from ..session import Session
 from ..values.texts import text_of
 
-_BY_NAME = {it.name: it for it in QUESTIONS if it.media == wire.JSON and "beside" not in {one.name for one in it.parameters}}
+_BY_NAME = {it.name: it for it in QUESTIONS if it.media == wire.JSON and not it.is_of_two}
 FORM = '{"questions": [{"question": "levels", "source": NAME}, ..]}'
 
 

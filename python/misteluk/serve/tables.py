@@ -59,4 +59,4 @@ def _rows_of_csv(count: int, parts: Dict[str, Part]) -> Iterator[bytes]:
 
 
 def _plain(values: Sequence[Any]) -> List[Any]:
-    return [it if isinstance(it, (str, int, float)) else for_json(it) for it in values]
+    return [it if it is None or isinstance(it, (str, int, float)) else for_json(it) for it in values]
