@@ -137,6 +137,7 @@ class _HeldGraph:
 
     _plain: Any = None
     _read: Read
+    graph: Dict[str, Any]
 
     def __new__(cls, *given: Any, **attributes: Any) -> Any:
         return cls._plain(*given, **attributes)
@@ -172,11 +173,11 @@ class _HeldGraph:
         return self._read.count() if weight is None else self._plain.size(self, weight)
 
 
-class HeldDiGraph(_HeldGraph, networkx.DiGraph):
+class HeldDiGraph(_HeldGraph, networkx.DiGraph):  # type: ignore[misc]
     _plain = networkx.DiGraph
 
 
-class HeldMultiDiGraph(_HeldGraph, networkx.MultiDiGraph):
+class HeldMultiDiGraph(_HeldGraph, networkx.MultiDiGraph):  # type: ignore[misc]
     _plain = networkx.MultiDiGraph
 
 

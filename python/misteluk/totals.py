@@ -2,7 +2,6 @@
 from __future__ import annotations
 
 from array import array
-from operator import neg
 from typing import TYPE_CHECKING, Any, Dict, Iterable, Optional, Sequence
 
 from .engine.protocol import Denied, must_have_kind
@@ -61,7 +60,8 @@ def degrees_among(session: Session[Any, Any], among: Iterable[str], kind: Option
     inner = edges.where([is_there[source] and is_there[target] for source, target in zip(edges.source, edges.target)])
     _, sources, targets, weights, *_ = inner._columns
     columns = counted(sources, count), counted(targets, count), summed(sources, weights, count)
-    found = degrees(*([it[at] for at in places.values()] for it in columns), edges.units._weights_told)
+    out, into, weight_out = ([it[at] for at in places.values()] for it in columns)
+    found = degrees(out, into, weight_out, edges.units._weights_told)
     return session._answer("degree", Called("degrees", (), {"among": list(places)}), found, tuple(places))
 
 
@@ -80,7 +80,7 @@ def _moved(diff: Diff[Any, Any], count: int) -> Dict[str, Values]:
     """For each vertex, of so many, how many edges of a difference go out and come in, and by how much their weight grew."""
     parts, told = (diff.gone, diff.before, diff.new, diff.after), diff.after.units._weights_told
     gone, before, new, after = (it._columns[WEIGHT] for it in parts)
-    grown, counts, sums = array("q", map(neg, gone + before)) + new + after, [], []
+    grown, counts, sums = array("q", [-it for it in gone + before]) + new + after, [], []
     for side in (SOURCE, TARGET):
         gone, before, new, after = (it._columns[side] for it in parts)
         counts.append(Values(counted(gone + new + after, count)))

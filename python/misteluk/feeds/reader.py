@@ -104,7 +104,7 @@ class Outbox:
         texts = self._names.since(self._texts_sent)
         self._kinds_sent, self._texts_sent = self._kinds_sent + len(kinds), self._texts_sent + len(texts)
         of = self._batch.columns
-        columns = [*of.of_kinds.encoded, *of.of_names.encoded, *of[:6]]
+        columns: List[Any] = [*of.of_kinds.encoded, *of.of_names.encoded, *of[:6]]
         send(self._descriptor, packed(columns, **self._head(following), kinds=kinds, texts=texts))
 
     def end(self, **how: Any) -> None:

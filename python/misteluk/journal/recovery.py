@@ -168,7 +168,7 @@ def last_of_feed(opened: sqlite3.Connection, mark: FeedMark) -> Optional[Tuple[i
     for version, feed in opened.execute(words):
         found = FeedMark.read(feed)
         if (found.file, found.begin, found.place) == (mark.file, mark.begin, mark.place):
-            return version, operations_of(next(rows_of(opened, version - 1, version)).records)
+            return version, operations_of([next(rows_of(opened, version - 1, version)).records])
     return None
 
 

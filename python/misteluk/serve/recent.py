@@ -53,7 +53,7 @@ class Recent:
 
     def note_records(self, version: int, count: int, records: bytes) -> None:
         """Notes a batch of so many operations by its records."""
-        self._note(version, 2 * count, lambda: operations_of(records).vertices())
+        self._note(version, 2 * count, lambda: operations_of([records]).vertices())
 
     def _note(self, version: int, size: int, named: Named) -> None:
         with self._lock:
@@ -109,4 +109,4 @@ class Recent:
         rows = self._engine.some_rows(after, version) if isinstance(self._engine, Journaled) else []
         if len(rows) < version - after:
             return None
-        return [operations_of(it.records).vertices for it in rows]
+        return [operations_of([it.records]).vertices for it in rows]

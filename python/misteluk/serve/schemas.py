@@ -16,10 +16,11 @@ TRUTH: Schema = {"type": "boolean"}
 # A weight or time: a number, or a text of a decimal or a date.
 MARK: Schema = {"oneOf": [{"type": "number"}, {"type": "string"}]}
 # What is in each column of a table.
-_OF_COLUMN = {**dict.fromkeys(("weight", "first", "recent", "weight_out", "weight_in"), MARK),
-              **dict.fromkeys(("level", "out", "into", "core"), WHOLE),
-              **dict.fromkeys((f"{it}_{when}" for it in Edge._fields for when in MOMENTS), {**MARK, "nullable": True}),
-              "state": {"type": "string", "enum": ["gone", "new", "changed"]}}
+_OF_COLUMN: Dict[str, Schema] = {
+    **dict.fromkeys(("weight", "first", "recent", "weight_out", "weight_in"), MARK),
+    **dict.fromkeys(("level", "out", "into", "core"), WHOLE),
+    **dict.fromkeys((f"{it}_{when}" for it in Edge._fields for when in MOMENTS), {**MARK, "nullable": True}),
+    "state": {"type": "string", "enum": ["gone", "new", "changed"]}}
 # What a question's table has besides its columns.
 BESIDE: Dict[str, Dict[str, Schema]] = {
     "names": {"found": WHOLE}, "diff": dict.fromkeys(("from", "gone", "new", "changed"), WHOLE)}

@@ -38,7 +38,8 @@ def put(rows: Iterable[Row], others: Sequence[str], edges: Edges[Any, Any], by_k
     found = [make(kind=kind, weight=weight, first=first, recent=recent)
              for kind, weight, first, recent in zip(kinds, *edges._told())]
     if by_kind:
-        attributes, found = found, list(map(dict.setdefault, rows, others, (make() for _ in kinds)))
+        found_or_put: Any = dict.setdefault
+        attributes, found = found, list(map(found_or_put, rows, others, (make() for _ in kinds)))
         _set(found, kinds, attributes)
     else:
         _set(rows, others, found)
