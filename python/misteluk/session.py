@@ -517,14 +517,3 @@ class Session(Generic[W, T]):
 
     def __repr__(self) -> str:
         return f"<Session of version {self.version} in slot {self._slot}: {'open' if self.is_open else 'closed'}>"
-
-
-class Opened:
-    """What has no answers itself, but sessions that do: it says so where it is asked for what they have."""
-
-    if not TYPE_CHECKING:
-        def __getattr__(self, name: str) -> Any:
-            if name in ("version", "vertex_count") or not name.startswith("_") and hasattr(Session, name):
-                raise AttributeError(f"a store has no {name!r}, but a session does: `with store.open() as session:`, and then "
-                                     f"`session.{name}`")
-            return super().__getattribute__(name)

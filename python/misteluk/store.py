@@ -14,9 +14,10 @@ from .engine.operations import ADD, EXPIRE, INSERT, REMOVE
 from .engine.protocol import Denied, Engine
 from .errors import NoSeat, PoolEmpty, Refused, StoreError, Uncommitted
 from .feeds.opening import reads
+from .hints import Opened
 from .ledger import Ledger
 from .options import By, ReadOptions, RestoreOptions, StoreOptions, Sync, _named
-from .session import Opened, Session
+from .session import Session
 from .values import records
 from .values.answers import Collected, Commit, Compacted, Stat, T, W, shown_as_html
 from .values.limits import Limits, within
