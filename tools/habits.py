@@ -105,8 +105,9 @@ def git(*words):
 
 
 def files():
-    """Returns the pages, scripts and wrong bodies that git knows, without licences and what `tools/help-pages` writes."""
-    names = [it for it in git("ls-files") if not it.startswith(("LICENSE", "share/"))]
+    """Returns the pages, scripts and wrong bodies that git knows, without licences, and what `tools/help-pages` and
+    `tools/lemma-index` write of other texts."""
+    names = [it for it in git("ls-files") if not it.startswith(("LICENSE", "share/", lemma_pages.PAGE))]
     known = (TOP / it for it in names)
     return [it for it in known if it.is_file() and it.suffix in PAGES | {".edit"}]
 
