@@ -240,7 +240,7 @@ class Successions(FilesCase):
         files = self.begin()
         for turn in range(2, 5):
             self.rotate(f"{turn}\n", f"log.{turn}")
-            as_soon_as(lambda: len(self.noted) == turn - 1)
+            as_soon_as(lambda: len(self.noted) == turn - 1, 20)
         self.assertEqual([(it.turn, it.place) for it in self.noted], [(it, FeedPlace()) for it in range(2, 5)])
         texts = []
         for _ in range(4):
@@ -251,6 +251,7 @@ class Successions(FilesCase):
     def test_a_path_where_none_stands(self):
         """It waits there for the next one. (Whoever follows the last one has it open, so that no other has its number.)"""
         files, found = self.begin(), []
+        self.assertEqual(len(files._files), 1)
         last = files.next()
         self.addCleanup(last.file.close)
         os.remove(self.path)
@@ -262,7 +263,7 @@ class Successions(FilesCase):
         thread.join(60)
         self.assertEqual(found, [("log", 2, 0)])
 
-    def test_its_end(self):
+    def test_at_its_end(self):
         """Nobody waits any more, its thread ends, and what wasn't taken is closed."""
         threads = set(threading.enumerate())
         with self.all_closed():
@@ -270,9 +271,9 @@ class Successions(FilesCase):
             watch, = set(threading.enumerate()) - threads
             self.assertTrue(watch.daemon)  # (so that a process ends though nobody closes it)
             files.close()
-            self.assertIsNone(files.next())
-            watch.join(60)
+            watch.join(20)
             self.assertFalse(watch.is_alive())
+            self.assertIsNone(files.next())
             self.rotate("later\n")
             files._look()
 
