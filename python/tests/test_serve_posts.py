@@ -159,9 +159,9 @@ class Posts(ServeCase):
     """A server as a process, which is asked while 8 MB come: others wait at most 50 ms for that, whatever it is. (A busy machine
     delays them too. So this is asked of the longest step in which no other thread had its turn, in time of a processor.)"""
 
-    STATUSES = {"CSV": 200, "CSV of other letters": 200, "rows": 200, "empty rows": 400, "one text": 413, "brackets": 400,
-                "rows with brackets": 200, "a long text of pairs": 200, "a batch of lists": 413, "a batch of lines": 400,
-                "a question of ends": 413, "a question of a long name": 413}
+    STATUSES = {"CSV": 200, "CSV of other letters": 400, "rows": 200, "empty rows": 400, "one text": 413, "brackets": 400,
+                "rows with brackets": 200, "a long text of pairs": 400, "a batch of lists": 413, "a batch of lines": 400,
+                "a question of ends": 413, "a question of a long name": 400}
 
     def test_others_are_answered_meanwhile(self):
         asker = waiting.Asker()
@@ -170,7 +170,7 @@ class Posts(ServeCase):
             tries = []
             with self.subTest(name):
                 while not tries or min(it.step for it in tries) > waiting.MOST:
-                    self.assertLess(len(tries), 4, tries)
+                    self.assertLess(len(tries), 6, tries)
                     tries.append(asker.beside(lambda: asker.sent(*self.bodies[name])))
                 self.assertEqual({it.status for it in tries}, {status})
 
