@@ -42,11 +42,11 @@ class Parts(Case):
         """The first batches are together as long as they insert and add; a kind and names like commands are none."""
         plain = b'i,r,x,"r,",1,1\na,x,"x,","r,",2,2\n'
         for text in (b"r,k,a,b\n", b"x,5\n", plain + b"r,k,a,b\n", plain + b"x,5\n" + plain):
-            rows = [written(1, plain), written(2, plain), written(3, text), written(4, plain)]
-            self.assertEqual(self.groups(rows, True), [[1, 2], [3, 4]], text)
-            self.assertEqual(self.groups(rows), [[1, 2, 3, 4]])
+            rows = [written(1, plain), written(2, plain), written(3, text), written(4, plain), written(5, text)]
+            self.assertEqual(self.groups(rows, True), [[1, 2], [3, 4, 5]], text)
+            self.assertEqual(self.groups(rows), [[1, 2, 3, 4, 5]])
             with mock.patch.multiple(joining, MOST_JOINED=1, MOST_OPENED=2):  # (behind it no store is opened)
-                self.assertEqual(self.groups(rows[2:], True), [[3], [4]])
+                self.assertEqual(self.groups(rows[2:], True), [[3], [4], [5]])
 
     def test_drops_begin_anew(self):
         rows = [written(1, drops=1), written(2), written(3, drops=1), written(4, drops=1), written(5)]
