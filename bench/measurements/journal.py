@@ -5,7 +5,9 @@
 
 A commit's figure is microseconds of the processor a row; in brackets it is a multiple of that in memory. `full` and `normal` are
 `sync`'s; the table has a row an edge, replaced on conflict, under FULL. An opening replays 240,000 rows in batches of 1,000, or
-reads a base of 5 million rows' edges. Posts are of one row each, by 8 threads of this process, to `misteluk serve` over a file.
+reads a base of 5 million rows' edges. Questions beside a base of a million rows' edges are for the edges of a vertex, by a thread
+of the same process. Posts are of one row each, by 8 threads of this process, to `misteluk serve` over a file; questions to
+replicas are by 8 connections in all.
 """
 from __future__ import annotations
 
@@ -20,11 +22,13 @@ from typing import Dict, Iterator, List, Tuple
 
 from bench import tables
 from bench.measuring import Spent, in_turns, medians, percentile
-from bench.stores.kept import WHERE, committed, posted, replayed, restarted, rows, sync_takes
+from bench.stores.kept import WHERE, answered, based, committed, posted, replayed, restarted, rows, sync_takes
 
 # How many rows go in by batches of a size.
 SIZES: Dict[int, int] = {1: 2_000, 100: 50_000, 1_000: 200_000, 4_096: 204_800}
-REPLAYED, RESTARTED, CLIENTS, SECONDS = 240_000, 5_000_000, 8, 20.0
+REPLAYED, RESTARTED, BASED, CLIENTS, SECONDS = 240_000, 5_000_000, 1_000_000, 8, 20.0
+# How many replicas there are, and how many edges they have.
+REPLICAS, REPLICATED = (1, 4), 100_000
 
 
 def options(parser: argparse.ArgumentParser) -> None:
@@ -65,6 +69,14 @@ def measure(words: argparse.Namespace, room: pathlib.Path) -> None:
                 commits({size: count // part for size, count in SIZES.items()}, words.turns, room))
     print()
     tables.show(["an opening of", "processor", ""], openings(words.turns, part, room))
+    with tempfile.TemporaryDirectory(dir=room) as name:
+        spent, *asked = based(BASED // part, pathlib.Path(name))
+    before, meanwhile = (percentile(it, 95) for it in asked)
+    print(f"\na base of {BASED // part:,} rows' edges: made in {tables.seconds(spent.processor)} with questions beside it, whose "
+          f"95th percentile is {tables.seconds(before)} before and {tables.seconds(meanwhile)} meanwhile")
+    rates = [answered(it, REPLICATED // part, CLIENTS, SECONDS / part / 2, room) for it in REPLICAS]
+    print("\n" + "; ".join(f"{count} replica{'s' * (count > 1)}: {rate:,.0f} questions a second" for count, rate in
+                           zip(REPLICAS, rates)))
     times = posted(CLIENTS, SECONDS / part, room)
     print(f"\n{CLIENTS} clients, posts of one row: {len(times) / SECONDS * part:,.0f} a second, median "
           f"{tables.seconds(median(times))}, 99th percentile {tables.seconds(percentile(times, 99))}")

@@ -1,4 +1,5 @@
-"""Stores in files: what commits, openings and single posts take, beside a store in memory and a plain table of SQLite."""
+"""Stores in files: what commits, openings, bases and single posts take, beside a store in memory and a plain table of SQLite; and
+how many questions replicas answer."""
 from __future__ import annotations
 
 import contextlib
@@ -7,6 +8,7 @@ import http.client
 import os
 import pathlib
 import random
+import socket
 import sqlite3
 import subprocess
 import sys
@@ -80,11 +82,17 @@ def replayed(given: List[Row], room: pathlib.Path) -> Tuple[Spent, int]:
         return spent, again.file.recovered.batches
 
 
+def loaded(place: pathlib.Path, edges: int) -> "Store[Any, Any]":
+    """A store with a file that has so many edges, or some fewer."""
+    store: "Store[Any, Any]" = Store(place, sync="off")
+    store.load([it[1:] for it in rows(edges, edges // 4)], by="set", progress=False)
+    return store
+
+
 def restarted(edges: int, room: pathlib.Path) -> Tuple[Spent, Spent, int]:
     """What it takes to make a base of so many edges, and to open the file then; and how many edges there are."""
     place = room / "restarted.db"
-    with Store(place, sync="off") as store:
-        store.load([it[1:] for it in rows(edges, edges // 4)], by="set", progress=False)
+    with loaded(place, edges) as store:
         base = timed(store.file.compact)[1]
     again, spent = timed(functools.partial(opened, place))
     with again:
@@ -103,13 +111,39 @@ def sync_takes(room: pathlib.Path) -> float:
     return median(found)
 
 
-# Single posts to a server.
+def asked(store: "Store[Any, Any]", is_over: Callable[[], bool]) -> List[float]:
+    """The seconds that each question for a vertex's edges took, one after another."""
+    chance, times = random.Random(3), []
+    with store.open() as session:
+        names = list(session.degrees())
+        while not is_over():
+            spent = watch()
+            session.successors(chance.choice(names))
+            times.append(spent().elapsed)
+    return times
+
+
+def based(edges: int, room: pathlib.Path) -> Tuple[Spent, List[float], List[float]]:
+    """What a base of so many edges takes, and how long questions took before it and while it was made."""
+    with loaded(room / "based.db", edges) as store:
+        until = time.monotonic() + 2
+        before = asked(store, lambda: time.monotonic() > until)
+        spent: List[Spent] = []
+        making = threading.Thread(target=lambda: spent.append(timed(store.file.compact)[1]))
+        making.start()
+        meanwhile = asked(store, lambda: not making.is_alive())
+        making.join()
+        return spent[0], before, meanwhile
+
+
+# A server's posts, and questions to replicas.
 
 @contextlib.contextmanager
-def server(place: pathlib.Path) -> Iterator[str]:
-    """A server over a file, and its address."""
-    words = [sys.executable, "-m", "misteluk", "serve", str(place), "--listen", "127.0.0.1:0"]
-    process = subprocess.Popen(words, stdout=subprocess.PIPE, text=True, env={**os.environ, "PYTHONPATH": str(TOP / "python")})
+def server(*words: object) -> Iterator[str]:
+    """A server of these words, as of a file, and its address."""
+    asked_for = [sys.executable, "-m", "misteluk", "serve", *map(str, words), "--listen", "127.0.0.1:0"]
+    process = subprocess.Popen(asked_for, stdout=subprocess.PIPE, text=True,
+                               env={**os.environ, "PYTHONPATH": str(TOP / "python")})
     try:
         told = cast(Any, process.stdout).readline()
         yield told.partition("http://")[2].split()[0]
@@ -142,6 +176,39 @@ def posted(clients: int, seconds: float, room: pathlib.Path) -> List[float]:
         for it in threads:
             it.join()
     return times
+
+
+def questions(address: str, until: float, counts: List[int]) -> None:
+    """Asks for edges of vertices one after another, as plainly as can be, so that the server has the processor."""
+    host, _, port = address.rpartition(":")
+    count = 0
+    with socket.create_connection((host, int(port))) as link:
+        while time.time() < until:
+            link.sendall(b"GET /v1/out_of?vertex=v%d HTTP/1.1\r\nHost: localhost\r\n\r\n" % (count % NAMES))
+            head, _, body = link.recv(1 << 16).partition(b"\r\n\r\n")
+            left = int(head.lower().partition(b"content-length: ")[2].split(b"\r\n")[0]) - len(body)
+            while left > 0:
+                left -= len(link.recv(left))
+            count += 1
+    counts.append(count)
+
+
+def answered(replicas: int, edges: int, clients: int, seconds: float, room: pathlib.Path) -> float:
+    """How many questions a second so many replicas of a store answer, together."""
+    counts: List[int] = []
+    place = room / "first.db"
+    with contextlib.ExitStack() as stack:
+        stack.enter_context(loaded(place, edges))
+        addresses = [stack.enter_context(server("--replica-of", place)) for _ in range(replicas)]
+        until = time.time() + seconds
+        threads = [threading.Thread(target=questions, args=(addresses[it % replicas], until, counts)) for it in range(clients)]
+        for it in threads:
+            it.start()
+        for it in threads:
+            it.join()
+    for left in room.glob("first.db*"):
+        left.unlink()
+    return sum(counts) / seconds
 
 
 WHERE: Dict[str, Callable[..., Spent]] = {it: committed for it in ("memory", "full", "normal", "table")}
