@@ -154,7 +154,7 @@ class Little(unittest.TestCase):
         for most, size, is_more, told in ((1 << 20, 1 << 16, False, b"told"), (1 << 20, (1 << 16) + 1, False, None),
                                           (1_024, 1_024, False, b"told"), (1_024, 1_025, False, None), (1_024, 9, True, None)):
             message = {"type": "http.request", "body": b"{}".ljust(size), "more_body": is_more}
-            shortcut = asking.Shortcut(None, None, answered, ServerLimits(body=most))
+            shortcut = asking.Shortcut(None, None, None, answered, ServerLimits(body=most))
             self.assertEqual(shortcut._told("x", message, {PERSON: EVERYONE}), told, (most, size, is_more))
 
 

@@ -12,7 +12,7 @@ from starlette.responses import Response
 from starlette.routing import Route
 
 from . import log, wire
-from .asking import ASK, OF_FEW, Answers, Shortcut
+from .asking import ASK, OF_FEW, ROWS, Answers, Shortcut
 from .bodies import loaded, rows_of_csv, rows_of_json
 from .board import Board, Full, Lease
 from .faults import told_fault
@@ -44,7 +44,7 @@ _ZONE_OR_TIME = re.compile(r"(?:^|&)(?:since|until)=\d{4}-\d\d-\d\d\+\d\d:", re.
 # What a request notes of its body: how many bytes are here.
 TAKEN = "misteluk.taken"
 # How the rows of a post are read.
-ROWS = {"text/csv": rows_of_csv, "application/json": rows_of_json}
+FORMS = {"text/csv": rows_of_csv, "application/json": rows_of_json}
 # The media type of Prometheus's text form.
 NUMBERS = "text/plain; version=0.0.4; charset=utf-8"
 # What says of a post that a repeat gets its answer, and how long that may be.
@@ -76,19 +76,19 @@ class Api:
         self._taken = 0
 
     def shortcut(self) -> Shortcut:
-        return Shortcut(self.app(), self._call(self.ask, ASK), self.answers, self.limits)
+        rows = self._call(self.rows, "rows", CALLS[ROWS]["POST"].role)
+        return Shortcut(self.app(), self._call(self.ask, ASK), rows, self.answers, self.limits)
 
     def app(self) -> Starlette:
         files = [Route(path, _file(name, media), methods=["GET"]) for path, (name, media) in FILES.items()]
         asked = [Route(f"/v1/{it.name}", self._call(self._asking(it), it.name), methods=["GET"]) for it in QUESTIONS]
         # (routes are looked through in order: those that are asked most come first)
-        held = [("POST", "/v1/sessions/{session}/ask", self.ask), ("POST", "/v1/rows", self.rows),
-                ("POST", "/v1/sessions", self.hold),
+        held = [("POST", "/v1/sessions/{session}/ask", self.ask), ("POST", "/v1/sessions", self.hold),
                 ("PUT", "/v1/sessions/{session}", self.keep), ("DELETE", "/v1/sessions/{session}", self.let_go)]
         others = [("GET", "/v1/stat", self.stat), ("GET", "/v1/events", self.events), ("GET", "/v1/log", self.log),
                   ("GET", "/v1/rate", self.rate),
                   ("POST", "/v1/ask", self.several),
-                  ("GET", "/v1/sessions", self.sessions),
+                  ("GET", "/v1/sessions", self.sessions), ("POST", ROWS, self.rows),
                   ("POST", "/v1/feeder", self.claim), ("DELETE", "/v1/feeder/{feeder}", self.leave),
                   ("POST", "/v1/feeder/{feeder}/batches/{number}", self.batch),
                   ("DELETE", "/v1/feeder/{feeder}/batches/{number}", self.landed), ("GET", "/openapi.json", self.description),
@@ -275,7 +275,7 @@ class Api:
     async def rows(self, request: Request) -> Response:
         """Rows of a client, in the user's terms."""
         name = request.query_params.get("feeder")
-        read = ROWS.get(request.headers.get("content-type", "").partition(";")[0].strip().lower())
+        read = FORMS.get(request.headers.get("content-type", "").partition(";")[0].strip().lower())
         if read is None:
             raise ValueError("rows are text/csv or application/json, as their Content-Type says")
         key = self._key_of(request)

@@ -26,8 +26,8 @@ OF_FEW = ("found", "out_of")
 MOST_HUBS = 10_000
 # The tables of all edges that are kept as they were told, since each client asks for them, and how many bytes one has at most.
 TABLES, MOST_KEPT = ("degrees", "labels", "cores"), 1 << 20
-# Where it is asked.
-ASKED, ASK = re.compile(r"/v1/sessions/([^/]+)/ask"), "ask"
+# Where it is asked, and where rows are posted.
+ASKED, ASK, ROWS = re.compile(r"/v1/sessions/([^/]+)/ask"), "ask", "/v1/rows"
 Ask = Callable[[Request], Any]
 
 
@@ -91,16 +91,24 @@ def _told_of(session: "Session[Any, Any]") -> Dict[str, bytes]:
 
 
 class Shortcut:
-    """Leads what is asked most straight to its answer, and lets Starlette look through its routes for all else."""
+    """Leads what is asked and posted most straight to its answer, and lets Starlette look through its routes for all else."""
 
-    def __init__(self, app: Any, ask: Ask, answers: Answers, limits: ServerLimits) -> None:
-        self._app, self._ask, self._answers, self._limits = app, ask, answers, limits
+    def __init__(self, app: Any, ask: Ask, rows: Ask, answers: Answers, limits: ServerLimits) -> None:
+        self._app, self._ask, self._rows, self._answers, self._limits = app, ask, rows, answers, limits
 
     async def __call__(self, scope: Any, receive: Receive, send: Send) -> None:
-        found = ASKED.fullmatch(scope["path"]) if scope["type"] == "http" and scope["method"] == "POST" else None
-        if found is None:
+        is_post = scope["type"] == "http" and scope["method"] == "POST"
+        found = ASKED.fullmatch(scope["path"]) if is_post else None
+        if found is not None:
+            await self._asked(found[1], scope, receive, send)
+        elif is_post and scope["path"] == ROWS:
+            answer = await self._rows(Request(scope, receive, send))
+            await answer(scope, receive, send)
+        else:
             await self._app(scope, receive, send)
-            return
+
+    async def _asked(self, session: str, scope: Any, receive: Receive, send: Send) -> None:
+        """Answers a question to a client's version."""
         try:
             async with within(self._limits.time, "the request's body doesn't come"):
                 first = await receive()
@@ -109,14 +117,14 @@ class Shortcut:
             return
         scope[CALL] = ASK
         await self._answers.turn()
-        told = self._told(found[1], first, scope)
+        told = self._told(session, first, scope)
         if isinstance(told, bytes):
             length = str(len(told)).encode("ascii")
             headers = [(b"content-length", length), (b"content-type", wire.COLUMNS.encode("ascii"))]
             await send({"type": "http.response.start", "status": 200, "headers": headers})
             await send({"type": "http.response.body", "body": told})
             return
-        scope["path_params"] = {"session": found[1]}
+        scope["path_params"] = {"session": session}
         answer = told or await self._ask(Request(scope, _again(first, receive), send))
         await answer(scope, receive, send)
 
