@@ -4,16 +4,17 @@ import http.client
 import json
 import random
 import unittest
+from unittest import mock
 
 from described import faults
 from serving import ROWS, Clock, FollowCase, ServeCase
 from support import as_soon_as
 
 import misteluk
-from misteluk import Limits, Store
+from misteluk import Store
 from misteluk.engine.operations import INSERT, Operations
+from misteluk.journal import recovery
 from misteluk.serve import recent, schemas
-from misteluk.serve.people import People
 from misteluk.serve.rate import STEP, STEPS, Rate
 from misteluk.serve.recent import Known, Recent
 from misteluk.serve.replica import Replica
@@ -213,6 +214,20 @@ class Restarts(Listening):
         self.add(("d", "b"))
         self.assertIsNone(self.touched(self.events(known)))
         self.assertEqual(self.touched(self.events(later))["names"], ["d", "b"])
+
+    def test_what_is_too_much_to_be_read(self):
+        """Some megabytes of the file's batches are read at most; a part of them is told as nothing known."""
+        store = self.begin()
+        known, _ = self.event(self.events())
+        for it in range(3):
+            self.add((f"c{it}", "b"))
+        later = f"{store._engine.sum_of(2)}:2"
+        self.end(store)
+        self.begin()
+        with mock.patch.object(recovery, "MOST_BYTES", 10):
+            self.assertIsNone(self.touched(self.events(known)))
+            self.assertEqual(self.touched(self.events(later))["names"], ["c2", "b"])
+        self.assertEqual(self.touched(self.events(known))["count"], 4)
 
     def test_a_replica(self):
         """It tells of what it applied."""

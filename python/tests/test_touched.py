@@ -8,6 +8,7 @@ import re
 import signal
 import subprocess
 import sys
+import threading
 import unittest
 from collections import Counter, defaultdict
 from itertools import islice
@@ -115,6 +116,21 @@ class Follows(Case):
         self.assertEqual((told, [it.commit.version for it in steps], store.stat().version), ([1, 1, 2, 2, 2], [1, 2], 2))
         with store.open() as session:
             self.assertEqual([it[3].weight for it in session.edges()], [1, 1])
+
+    def test_a_feed_that_is_silent(self):
+        """A batch of a pipe is told at once, and its step given, also where no row comes behind it."""
+        told, steps = [], []
+        out, into = os.pipe()
+        self.addCleanup(os.close, into)
+        os.write(into, b"a,b,1,1\n")
+        store = Store()
+        self.addCleanup(self.let_go, store)
+        with open(out, "rb") as pipe, store.follow(pipe, by="add", columns=COLUMNS, progress=False, every=0,
+                                                   on=told.append) as following:
+            thread = threading.Thread(target=lambda: steps.append(next(following)), daemon=True)
+            thread.start()
+            thread.join(10)
+            self.assertEqual((told, [it.rows for it in steps]), ([Touched(1, ("a", "b"))], [1]))
 
     def test_without_it_nothing_is_told(self):
         _, following = self.follow("a,b,1,1\n", None)
