@@ -192,10 +192,14 @@ class Rates(LiveCase):
         self.hour([100])
         browser = Browser()
         self.addCleanup(browser.close)
+        browser._call("Page.enable")
+        browser._call("Page.addScriptToEvaluateOnNewDocument", source="{ const real = fetch; window.asked = []; window.fetch = "
+                      "(path, ...given) => { asked.push(path); return real(path, ...given); }; }")
         browser.go(self.server.url)
         browser.wait_for("!document.getElementById('entry').hidden")
         time.sleep(0.3)
-        self.assertEqual(self.text(browser, "rates-told"), "")
+        asked = browser.see("asked")
+        self.assertEqual((self.text(browser, "rates-told"), set(asked)), ("", {"v1/stat"}))
         browser.see("document.getElementById('token').value = 'open-sesame'; document.getElementById('entry').requestSubmit()")
         browser.wait_for("document.getElementById('rates-told').textContent === 'at most 10, 10 in the mean'")
 

@@ -1,5 +1,5 @@
 // What one looks at: a neighborhood, a table or a path. Each has an address, which a colleague can open.
-import { acting, ask, element, faults, number, refreshing, the } from "./asking.js";
+import { acting, ask, element, number, refreshing, the } from "./asking.js";
 
 // The tables that there are: the question that has each, its column, and how that column is called.
 const tables = {
@@ -47,7 +47,6 @@ const scope = (it) => new URLSearchParams(filters.filter((name) => it.has(name))
 const shown = async (what, title, made) => {
     const mine = ++looks;
     seen = null;
-    faults.live = "";
     the("next")?.remove();
     for (const it of Object.values(parts)) the(`${it}-part`).hidden = true;
     the("expand").hidden = true;
