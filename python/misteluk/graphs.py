@@ -149,9 +149,7 @@ class _HeldGraph:
         graph._read, graph._node = read, Nodes(read)
         graph._adj = graph._succ = Rows(read, 0)
         graph._pred = Rows(read, 1)
-        networkx.freeze(graph)
-        graph.clear_edges = graph.clear  # (which networkx 2.8 leaves as it is)
-        return graph
+        return networkx.freeze(graph)
 
     @property
     def adj(self) -> Any:

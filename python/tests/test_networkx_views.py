@@ -2,8 +2,10 @@
 algorithms of each sort. Graphs are random, with removals, kinds and windows. What nobody can change, what becomes of a graph
 whose session is closed, and how much is read."""
 import copy
+import gc
 import pickle
 import unittest
+import weakref
 from unittest import mock
 
 from graphs import Play
@@ -211,7 +213,10 @@ class Views(Case):
             row = copy.deepcopy(view._adj)["ulm"]
             self.assertEqual({type(row), *map(type, row.values()), type(pickle.loads(pickle.dumps(view._adj))["ulm"])}, {dict})
             self.assertIs(type(view.__class__()), kind)
-            self.assertEqual(list(view.__class__([("x", "y")], name="n").edges)[0][:2], ("x", "y"))
+            made = view.__class__([("x", "y")], name="n")
+            self.assertEqual((list(made.edges)[0][:2], made.graph), (("x", "y"), {"name": "n"}))
+            seen = view.copy(as_view=True)
+            self.assertEqual((type(seen), networkx.is_frozen(seen), seen._node is view._node), (kind, True, True))
 
     def test_a_closed_session_answers_no_more(self):
         """Neither a graph of which nothing was read, nor one of which all was, nor what was made of them."""
@@ -236,6 +241,16 @@ class Views(Case):
         for it in made:
             self.assertRaises(errors.SessionClosed, plain, it)
         self.assertRaises(errors.SessionClosed, session.graph)
+
+    def test_a_closed_session_keeps_nothing(self):
+        session = self.store(*ROADS).open()
+        list(session.graph().edges)
+        read = weakref.ref(session._read)
+        gc.collect()
+        self.assertIsNotNone(read())
+        session.close()
+        gc.collect()
+        self.assertIsNone(read())
 
     def test_it_keeps_its_version(self):
         """It is of the version whatever is committed, also where nobody has the session any more."""
@@ -307,6 +322,7 @@ class Made(Case):
         graph.add_edge("bonn", "ulm", "sea", weight=1)
         graph.nodes["ulm"]["colour"] = "red"
         networkx.set_edge_attributes(graph, 5, "lanes")
+        self.assertEqual(dict(graph.nodes), {"ulm": {"colour": "red"}, "bonn": {}})
         self.assertEqual(sorted(graph.edges(keys=True, data="lanes")), [
             ("bonn", "ulm", "sea", 5), ("ulm", "bonn", "rail", 5), ("ulm", "bonn", "road", 5)])
         self.assertEqual(sorted(map(str, graph.in_edges(data="lanes"))), sorted(map(str, graph.edges(data="lanes"))))
