@@ -191,15 +191,15 @@ class Among(Case):
             self.assertEqual(session.degrees(among=some), wanted)
             with mock.patch.object(totals, "numpy_for", lambda count: None):
                 self.assertEqual(session.degrees(among=some), wanted)
-        for most in (1 << 40, (1 << 63) - 1):
-            for least in (-5, -most):
-                ends = array("I", [random_.randrange(4) for _ in range(1_000)])
-                weights = array("q", [random_.choice([most, most - 1, least]) for _ in ends])
-                sums = [sum(weight for it, weight in zip(ends, weights) if it == at) for at in range(5)]
-                for numpy_for in (totals.numpy_for, lambda count: numpy, lambda count: None):
-                    with mock.patch.object(totals, "numpy_for", numpy_for):
-                        self.assertEqual(list(totals.summed(ends, weights, 5)), sums)
-                        self.assertEqual(list(totals.counted(ends, 5)), [list(ends).count(at) for at in range(5)])
+        great = (1 << 63) - 1
+        for most, least in ((1 << 40, -5), (1 << 40, -(1 << 40)), (great, -5), (great, -great), (5, -great)):
+            ends = array("I", [random_.randrange(4) for _ in range(1_000)])
+            weights = array("q", [random_.choice([most, most - 1, least]) for _ in ends])
+            sums = [sum(weight for it, weight in zip(ends, weights) if it == at) for at in range(5)]
+            for numpy_for in (totals.numpy_for, lambda count: numpy, lambda count: None):
+                with mock.patch.object(totals, "numpy_for", numpy_for):
+                    self.assertEqual(list(totals.summed(ends, weights, 5)), sums)
+                    self.assertEqual(list(totals.counted(ends, 5)), [list(ends).count(at) for at in range(5)])
 
 
 if __name__ == "__main__":
