@@ -11,9 +11,10 @@ from support import Case
 
 import misteluk
 from misteluk import Columns, Units
-from misteluk.feeds import apart, parcels, reader
+from misteluk.feeds import apart, reader
 from misteluk.feeds.rejects import Lines, Rejected
 from misteluk.feeds.steps import FeedPlace
+from misteluk.values import parcels
 from misteluk.values.names import NameTable
 
 PLACE = FeedPlace(rows=5, line=7, newest=9, read=80, mark="m", done=8, bad=1)

@@ -17,7 +17,7 @@ import interrupting
 from asking import NO_ANSWERS, ROWS, calls, plain
 from interrupting import CALLS, EDGES, KNOWN, Scene, after, elsewhere, handler, interrupt_in_a_call, places
 from modelled import Model
-from support import Case
+from support import Case, kill
 
 import misteluk
 from misteluk import Store, ledger, store
@@ -200,7 +200,7 @@ class Asked:
             it.close()
 
     def end(self):
-        self.store._kill()
+        kill(self.store)
 
 
 class Questions(Case):

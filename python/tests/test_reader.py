@@ -16,10 +16,11 @@ from support import Case
 
 import misteluk
 from misteluk import Units, errors
-from misteluk.feeds import calls, parcels, reader
+from misteluk.feeds import calls, reader
 from misteluk.feeds.opening import ReadAs
 from misteluk.feeds.rejects import Lines, Rejected
 from misteluk.feeds.steps import FeedPlace, Pace, Recipe
+from misteluk.values import parcels
 from misteluk.values.answers import NOTHING
 from misteluk.values.names import NameTable
 
