@@ -11,7 +11,7 @@ from support import Case
 
 import misteluk
 from misteluk import Columns, Units
-from misteluk.feeds import apart, reader
+from misteluk.feeds import apart, pipes, reader
 from misteluk.feeds.rejects import Lines, Rejected
 from misteluk.feeds.steps import FeedPlace
 from misteluk.values import parcels
@@ -141,7 +141,7 @@ class Kept(Case):
     def steps(self, found, *heads):
         """The steps of one that receives these."""
         given = [None if it is None else parcels.Parcel(*it) if isinstance(it, tuple) else parcels.Parcel(it, []) for it in heads]
-        with mock.patch.object(parcels, "received", side_effect=given):
+        with mock.patch.object(apart, "received", side_effect=given):
             return next(found)
 
     def test_what_ends_the_steps(self):
@@ -180,18 +180,16 @@ class Kept(Case):
 
     def batch(self, **head):
         """A batch of one row, as a reader sends it."""
-        sent = []
         outbox = reader.Outbox(5, NameTable())
         outbox.kinds["k"] = None
         outbox.pending.append((1, "k", "a", "b", 5, 7))
         outbox.commit(True, 1)
-        with mock.patch.object(reader.parcels, "send", lambda _, data: sent.append(data)):
-            outbox.send(mock.Mock(_place=PLACE._replace(rows=6, line=8), last_bad=None))
         ours, theirs = os.pipe()
-        os.write(theirs, sent[0])
+        with mock.patch.object(reader, "send", lambda _, parts: pipes.send(theirs, parts)):
+            outbox.send(mock.Mock(_place=PLACE._replace(rows=6, line=8), last_bad=None))
         os.close(theirs)
         with os.fdopen(ours, "rb"):
-            parcel = parcels.received(ours)
+            parcel = pipes.received(ours)
         return {**parcel.head, **head}, parcel.columns
 
     def test_a_batch(self):
@@ -206,7 +204,7 @@ class Kept(Case):
             self.assertEqual((told.commit.inserted, told.rows, told.line, within), (1, 6, 8, [1]))
             self.assertEqual((applied.call_args.args[0].feed, applied.call_args.args[1]), ("a mark", True))
             mark.written.assert_called_once_with(PLACE._replace(rows=6, line=8, rejects=size))
-            self.assertEqual((found.place.rows, found.store.kinds, found.store.stat().edges), (6, ["k"], 1))
+            self.assertEqual((found.place.rows, found.store.kinds(), found.store.stat().edges), (6, ["k"], 1))
         found = self.apart()
         with mock.patch.object(found.store._ledger, "apply", wraps=found.store._ledger.apply) as applied:
             self.steps(found, self.batch())
@@ -269,7 +267,7 @@ class Kept(Case):
 
     def test_since_when_it_is_waited_for(self):
         found, seen = self.apart(), []
-        with mock.patch.object(parcels, "received", side_effect=lambda _: seen.append(found._since)):
+        with mock.patch.object(apart, "received", side_effect=lambda _: seen.append(found._since)):
             self.assertIsNone(found._received())
         self.assertEqual((len(seen), found._since), (1, None))
         self.assertIsInstance(seen[0], float)

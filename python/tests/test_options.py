@@ -8,7 +8,7 @@ from support import Case
 
 from misteluk.command.options import columns_of, make_parser
 from misteluk.feeds.feed import Columns
-from misteluk.serve.limits import ServerLimits
+from misteluk.serve.limits import ServerLimits, versions_by_memory
 
 NEVER = "9223372036854775807"
 # What each command has where nothing is said but what it wants.
@@ -25,8 +25,8 @@ USUAL = {
     "restore f": {**THEN, "file": "f", "blocks": None},
     "follow f --add": {**FEED, **PACE, **TABLES, "file": "f", "until_end": False, "ask": [], "within": None, "json": False},
     "serve": {**FEED, **PACE, "file": None, "by": None, "listen": "127.0.0.1:7700", "token_file": None, "log": None, "save": None,
-              "save_every": 60.0, "idle": 60.0, "versions": 64, "clients": 1_000, "body": 8_388_608, "longest": 60.0,
-              "each": 100, "questions": 4, "path": None, "sync": None, "history": None, "replica_of": None},
+              "save_every": 60.0, "idle": 60.0, "versions": versions_by_memory(), "publish": 0.0, "clients": 1_000,
+              "body": 8_388_608, "longest": 60.0, "each": 100, "questions": 4, "path": None, "sync": None, "history": None, "replica_of": None},
     "at f --version 3": {**THEN, "file": "f", "version": 3, "time": None},
     "log f": {"file": "f", "since": None},
     "check f": {"file": "f"},
@@ -129,14 +129,14 @@ class Limits(Case):
         """The least and the greatest of each, which are taken, and what is next to them, which isn't."""
         for name, least, most, step in (("clients", 1, 100_000, 1), ("body", 1_024, 1 << 30, 1), ("questions", 1, 64, 1),
                                         ("versions", 1, 100_000, 1), ("each", 1, 100_000, 1), ("idle", 1e-9, 1e6, 1e-9),
-                                        ("time", 1e-9, 1e6, 1e-9)):
+                                        ("time", 1e-9, 1e6, 1e-9), ("publish", 0.0, 1e6, 1e-9)):
             for value in (least, most):
                 self.assertEqual(getattr(ServerLimits(**{name: value}).checked(), name), value)
             for value in (least - step, most + max(step, 1e-3), float("nan")):
                 self.assertRaisesRegex((ValueError, TypeError), name, ServerLimits(**{name: value}).checked)
 
     def test_usual_ones(self):
-        self.assertEqual(ServerLimits().checked(), (60.0, 1_000, 8_388_608, 60.0, 4, 64, 100))
+        self.assertEqual(ServerLimits().checked(), (60.0, 1_000, 8_388_608, 60.0, 4, 64, 100, 0.0))
 
 
 if __name__ == "__main__":

@@ -16,11 +16,10 @@ from support import Case
 
 import misteluk
 from misteluk import Units, errors
-from misteluk.feeds import calls, reader
+from misteluk.feeds import calls, pipes, reader
 from misteluk.feeds.opening import ReadAs
 from misteluk.feeds.rejects import Lines, Rejected
 from misteluk.feeds.steps import FeedPlace, Pace, Recipe
-from misteluk.values import parcels
 from misteluk.values.answers import NOTHING
 from misteluk.values.names import NameTable
 
@@ -102,7 +101,7 @@ class Sent(Case):
         found = []
         with contextlib.suppress(BlockingIOError):
             while True:
-                it = parcels.received(self.ours)
+                it = pipes.received(self.ours)
                 found.append(({name: value for name, value in it.head.items() if name != "columns"},
                               [column.tolist() for column in it.columns]))
         return found

@@ -170,13 +170,13 @@ class Direct(ServeCase):
             link.sendall(self.request(ASKED))
             self.until_read()
             may_go.set()
-            self.assertEqual([it[:5] for it in self.bodies(link, 2)], [b'[["I"', ANSWER[:5]])
+            self.assertEqual([it[:5] for it in self.bodies(link, 2)], [b'{"col', ANSWER[:5]])
 
     def test_one_behind_another(self):
         """Requests that come at once, or before one was answered, are answered in their order."""
         self.begin()
         link, edge, table = self.link(), self.request(ASKED), self.request({"call": "edges"})
-        begins = {edge: ANSWER, table: b'[["I", 2], '}
+        begins = {edge: ANSWER, table: b'{"columns": [["I", 2], '}
         for asked in ((edge, edge), (table, edge), (edge, table), (edge, table, edge)):
             data = b"".join(asked)
             for cut in (0, 30, len(data) // 2, len(data) - 1):

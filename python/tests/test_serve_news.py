@@ -32,7 +32,7 @@ class Streams(unittest.TestCase):
     def sent(self, acts, known=-1, idle=60.0):
         """What a stream sends. Behind each of its parts an act is done, by its number, with the stream's bell, its board, what
         says whether its reader is let in, and what has the reader go; the last one ends it."""
-        sent, over = [], []
+        sent, over, asked = [], [], []
 
         async def run():
             gone, is_let_in = asyncio.Event(), mock.Mock(return_value=True)
@@ -50,11 +50,15 @@ class Streams(unittest.TestCase):
                 await asyncio.sleep(0)
                 found = acts.get(len(sent), lambda *_: None)(bell, board, is_let_in, gone)
                 await (found or asyncio.sleep(0))
-            events = news.Events(bell, board, lambda: {"version": board.stat.version, "edges": 7}, "run", ServerLimits(idle=idle),
-                                 is_let_in, known)
+
+            async def told(before):
+                asked.append(before)
+                return f"run:{board.stat.version}", {"version": board.stat.version, "edges": 7}
+            events = news.Events(bell, board, told, ServerLimits(idle=idle), is_let_in, known)
             await asyncio.wait_for(events({}, receive, send), 10)
             await asyncio.sleep(0)
             self.assertEqual((over, bell._waiting), ([True], set()))
+            self.assertEqual(asked[:1], [known][:len(asked)])
         with mock.patch.multiple(news, SILENCE=0.03, PAUSE=0.05):
             asyncio.run(run())
         return sent
