@@ -267,7 +267,8 @@ class Story(Case):
 
     def test_killed_at_each_place(self):
         """Of the call, before and behind what it writes: each account is reported once, and none is missed."""
-        rows = list(csv.DictReader(open(TOP / "examples/stories/transfers.csv")))
+        with open(TOP / "examples/stories/transfers.csv", encoding="utf-8") as file:
+            rows = list(csv.DictReader(file))
         wanted = funnels(rows, 7)
         self.assertEqual(sorted(wanted), ["club", "funnel"])
         script = re.sub(LINE, r"\1here()\n\1\2", SCRIPT).replace("on=alert", "on=alert, batch=7, until_end=True, every=0")
