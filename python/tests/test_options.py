@@ -8,7 +8,7 @@ from support import Case
 
 from misteluk.command.options import columns_of, make_parser
 from misteluk.feeds.feed import Columns
-from misteluk.serve.limits import ServerLimits, versions_by_memory
+from misteluk.serve.limits import ServerLimits
 
 NEVER = "9223372036854775807"
 # What each command has where nothing is said but what it wants.
@@ -25,8 +25,8 @@ USUAL = {
     "restore f": {**THEN, "file": "f", "blocks": None},
     "follow f --add": {**FEED, **PACE, **TABLES, "file": "f", "until_end": False, "ask": [], "within": None, "json": False},
     "serve": {**FEED, **PACE, "file": None, "by": None, "listen": "127.0.0.1:7700", "token_file": None, "log": None, "save": None,
-              "save_every": 60.0, "idle": 60.0, "versions": versions_by_memory(), "publish": 0.0, "clients": 1_000,
-              "body": 8_388_608, "longest": 60.0, "each": 100, "questions": 4, "path": None, "sync": None, "history": None, "replica_of": None},
+              "save_every": 60.0, "idle": 60.0, "versions": None, "publish": 0.0, "clients": 1_000, "body": 8_388_608,
+              "longest": 60.0, "each": 100, "questions": 4, "path": None, "sync": None, "history": None, "replica_of": None},
     "at f --version 3": {**THEN, "file": "f", "version": 3, "time": None},
     "log f": {"file": "f", "since": None},
     "check f": {"file": "f"},
@@ -62,6 +62,7 @@ GIVEN = {
     "serve": (*OF_FEED, *OF_PACE, ("--listen h:1", "listen", "h:1"), ("--token-file t", "token_file", "t"),
               ("--log json", "log", "json"), ("--log text", "log", "text"), ("--save s", "save", "s"),
               ("--save-every 1.5", "save_every", 1.5), ("--idle 1.5", "idle", 1.5), ("--versions 7", "versions", 7),
+              ("--publish 1500ms", "publish", 1.5), ("--publish 2", "publish", 2.0),
               ("--clients 7", "clients", 7), ("--body 7", "body", 7), ("--longest 1.5", "longest", 1.5), ("--each 7", "each", 7),
               ("--questions 7", "questions", 7), ("--sync normal", "sync", "normal"), ("--history 3", "history", 3),
               ("--replica-of r", "replica_of", "r"), ("g.db", "path", "g.db")),

@@ -188,9 +188,8 @@ def add_server_options(parser: argparse.ArgumentParser) -> None:
                         f"there is another version ({USUAL_EVERY:g})")
     listen.add_argument("--idle", type=float, default=usual.idle, metavar="SECONDS", help="let a client's version go when it was "
                         f"silent for so long ({usual.idle:g})")
-    many = versions_by_memory()
-    listen.add_argument("--versions", type=int, default=many, metavar="N", help="how many versions clients may hold, besides the "
-                        f"newest; each takes memory for what came later (one for each 64 MB of memory: {many} here)")
+    listen.add_argument("--versions", type=int, metavar="N", help="how many versions clients may hold, besides the newest; each "
+                        f"takes memory for what came later (one for each 64 MB of memory: {versions_by_memory()} here)")
     listen.add_argument("--publish", type=seconds_of, default=0.0, metavar="TIME", help="have what was fed become the newest "
                         "version at such intervals, as 5s, so that those who come meanwhile share one; else each batch does")
     listen.add_argument("--clients", type=int, default=usual.clients, metavar="N", help=f"how many sessions there may be "

@@ -20,7 +20,7 @@ from ..serve import log
 from ..serve.door import raise_descriptors
 from ..serve.ending import Deadline
 from ..serve.keeping import Keeper
-from ..serve.limits import ROOM, ServerLimits
+from ..serve.limits import ROOM, ServerLimits, versions_by_memory
 from ..serve.notify import Manager
 from ..serve.people import People, people_of
 from ..serve.replica import Replica
@@ -67,8 +67,9 @@ def take_files(words: argparse.Namespace) -> None:
 def serve(words: argparse.Namespace, how: Dict[str, Any]) -> int:
     """Serves a store until a signal ends it."""
     take_files(words)
-    limits = ServerLimits(words.idle, words.clients, words.body, words.longest, words.questions, words.versions,
-                          words.each, words.publish)
+    versions = versions_by_memory() if words.versions is None else words.versions
+    limits = ServerLimits(words.idle, words.clients, words.body, words.longest, words.questions, versions, words.each,
+                          words.publish)
     if words.save is not None and words.file not in (None, STANDARD_INPUT):
         raise ValueError("a file that is followed is read again at the start: --save is for rows that a pipe or clients bring")
     with log.written(words.log):
