@@ -15,15 +15,6 @@ TEXT: Schema = {"type": "string"}
 TRUTH: Schema = {"type": "boolean"}
 # A weight or time: a number, or a text of a decimal or a date.
 MARK: Schema = {"oneOf": [{"type": "number"}, {"type": "string"}]}
-# What is in each column of a table.
-_OF_COLUMN: Dict[str, Schema] = {
-    **dict.fromkeys(("weight", "first", "recent", "weight_out", "weight_in"), MARK),
-    **dict.fromkeys(("level", "out", "into", "core"), WHOLE),
-    **dict.fromkeys((f"{it}_{when}" for it in Edge._fields for when in MOMENTS), {**MARK, "nullable": True}),
-    "state": {"type": "string", "enum": ["gone", "new", "changed"]}}
-# What a question's table has besides its columns.
-BESIDE: Dict[str, Dict[str, Schema]] = {
-    "names": {"found": WHOLE}, "diff": dict.fromkeys(("from", "gone", "new", "changed"), WHOLE)}
 
 
 def of(needed: Dict[str, Schema], **more: Schema) -> Schema:
@@ -37,6 +28,16 @@ def rows_of(schema: Schema) -> Schema:
 
 def or_null(schema: Schema) -> Schema:
     return {**schema, "nullable": True}
+
+
+# What is in each column of a table.
+_OF_COLUMN = {**dict.fromkeys(("weight", "first", "recent", "weight_out", "weight_in"), MARK),
+              **dict.fromkeys(("level", "out", "into", "core"), WHOLE),
+              **dict.fromkeys((f"{it}_{when}" for it in Edge._fields for when in MOMENTS), or_null(MARK)),
+              "state": {"type": "string", "enum": ["gone", "new", "changed"]}}
+# What a question's table has besides its columns.
+BESIDE: Dict[str, Dict[str, Schema]] = {
+    "names": {"found": WHOLE}, "diff": dict.fromkeys(("from", "gone", "new", "changed"), WHOLE)}
 
 
 def table(columns: Sequence[str], **more: Schema) -> Schema:
