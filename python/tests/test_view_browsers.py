@@ -96,6 +96,21 @@ class Browsers(Case):
         seen = json.loads(self.browse("wide.html", page.replace("</body>", look + "</body>")).see("document.body.textContent"))
         self.assertEqual((seen["count"], seen["cut"]), (300, []))
 
+    def test_a_window_that_narrows(self):
+        """Names are larger in a narrow one, and no border cuts them then, whichever way it was before."""
+        store = self.store(*(f"insert transfer a-name-of-some-length-{it} hub 1 1" for it in range(16)))
+        view(store.open(), "hub", hops=1).save(self.room / "page.html")
+        browser = Browser()
+        self.addCleanup(browser.close)
+        browser.go(f"file://{self.room}/page.html")
+        cut = ("[...document.querySelectorAll('.picture .name')].map((it) => [it.getBBox(), it.ownerSVGElement.viewBox.baseVal.width])"
+               ".filter(([box, width]) => box.x < 0 || box.x + box.width > width).length")
+        size = "getComputedStyle(document.querySelector('.picture .hop1 .name')).fontSize"
+        for width, wanted in ((1280, "12px"), (375, "19px"), (1280, "12px"), (340, "19px")):
+            browser.size(width, 900, width < 400)
+            browser.wait_for(f"{size} === '{wanted}'")
+            browser.wait_for(f"{cut} === 0")
+
     def test_colors(self):
         """Gone edges are red in the picture before and not in the one after, new ones blue after and not before; the one that
         changed is in both. A notebook's styles don't reach the frame."""

@@ -90,14 +90,21 @@
         if (event.key === "Escape") { search.value = ""; pinned = null; point(null); }
     });
 
-    // A name stands within its picture, as wide as its letters may be, also while it is bold: a border would cut it.
-    for (const name of all(".picture .name")) {
-        name.style.fontWeight = "600";
-        const box = name.getBBox(), over = box.x + box.width + 2 - name.ownerSVGElement.viewBox.baseVal.width;
-        name.style.fontWeight = "";
-        const aside = box.x < 2 ? 2 - box.x : over > 0 ? -Math.min(over, box.x - 2) : 0;
-        if (aside !== 0) name.setAttribute("x", (Number(name.getAttribute("x")) + aside).toFixed(1));
-    }
+    // A name stands within its picture, as wide as its letters may be, also while it is bold: a border would cut it. (How wide
+    // they are depends on the window's width.)
+    const drawn = all(".picture .name").map((name) => [name, Number(name.getAttribute("x"))]);
+    const fit = () => {
+        for (const [name, x] of drawn) {
+            name.setAttribute("x", x.toFixed(1));
+            name.style.fontWeight = "600";
+            const box = name.getBBox(), over = box.x + box.width + 2 - name.ownerSVGElement.viewBox.baseVal.width;
+            name.style.fontWeight = "";
+            const aside = box.x < 2 ? 2 - box.x : over > 0 ? -Math.min(over, box.x - 2) : 0;
+            if (aside !== 0) name.setAttribute("x", (x + aside).toFixed(1));
+        }
+    };
+    fit();
+    addEventListener("resize", fit);
 
     // A click on a column's head orders a table by it.
     for (const button of all("th button")) {
