@@ -103,8 +103,9 @@ class Browsers(Case):
         browser = Browser()
         self.addCleanup(browser.close)
         browser.go(f"file://{self.room}/page.html")
-        cut = ("[...document.querySelectorAll('.picture .name')].map((it) => [it.getBBox(), it.ownerSVGElement.viewBox.baseVal.width])"
-               ".filter(([box, width]) => box.x < 0 || box.x + box.width > width).length")
+        cut = ("[...document.querySelectorAll('.picture .name')].map((it) => [it.getBBox(), "
+               "it.ownerSVGElement.viewBox.baseVal.width]).filter(([box, width]) => box.x < 0 || box.x + box.width > width)"
+               ".length")
         size = "getComputedStyle(document.querySelector('.picture .hop1 .name')).fontSize"
         for width, wanted in ((1280, "12px"), (375, "19px"), (1280, "12px"), (340, "19px")):
             browser.size(width, 900, width < 400)

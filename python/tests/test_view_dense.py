@@ -1,4 +1,5 @@
-"""The page of a neighborhood with more edges than can be told apart: how many are shown and drawn, which, and what it says."""
+"""The page of a neighborhood with more edges than can be told apart: how many are shown and drawn, which, and what it says; and
+with loops."""
 import unittest
 from unittest import mock
 
@@ -6,6 +7,8 @@ from pages import Reader
 from support import Case
 
 from misteluk import view
+from misteluk.page.drawing import Drawing
+from misteluk.page.layout import HEIGHT, WIDTH
 
 # A hub of twenty vertices, the later the heavier, each of which has an edge to each other one.
 HUB = [f"insert k hub v{it} {100 + it} 1" for it in range(1, 21)]
@@ -51,6 +54,17 @@ class Dense(Case):
         self.assertEqual([set(self.drawn(found, it)) for it in (0, 1)],
                          [{"v1 → v2", "v3 → v1", "hub → v20"}, {"v2 → v2", "v3 → v1", "hub → v20"}])
         self.assertIn("Of the edges those gone, new or changed come first, then the nearest", Reader(found.html).texts["notes"])
+
+    def test_loops_have_room(self):
+        """Also those of vertices at a border, two of each: their weights stand within the picture."""
+        rows = [f"insert {kind} v{it} v{it} {it + 1} 1" for it in range(12) for kind in "kl"]
+        store = self.store(*rows, *(f"insert k hub v{it} 50 1" for it in range(12)))
+        drawing = Drawing(view(store.open(), "hub", hops=1).neighborhood)
+        loops = [it for (_, source, target), it in drawing.curves.items() if source == target]
+        self.assertEqual((len(loops), drawing.has_weights), (24, True))
+        for it in loops:
+            for x, y in it.points:
+                self.assertTrue(10 < y < HEIGHT - 10 and 10 < x < WIDTH - 10, (x, y))
 
 
 if __name__ == "__main__":

@@ -13,6 +13,8 @@ from .neighborhood import CHANGED, Key, Neighborhood, Side
 
 # How far apart edges between the same two vertices bend, and how long an arrow's head is.
 BEND, HEAD = 26.0, 8.0
+# How far from the border the middle of a loop is at least, where its weight stands.
+ROOM = 24.0
 # How far an edge's middle goes aside to keep off other vertices, as it is tried.
 SHIFTS = (0.0, 14.0, -14.0, 26.0, -26.0, 40.0, -40.0)
 # Up to so many edges are bent around vertices.
@@ -86,10 +88,13 @@ def _toward(point: Point, other: Point, length: float) -> Point:
 
 
 def loop(at: Point, radius: float, turn: int) -> Curve:
-    """From a vertex to itself, above it; a later one is higher."""
-    x, y, high = at[0], at[1] - radius, 26.0 + 10 * turn
-    line = f"M{_numbers(x - 4, y)}C{_numbers(x - high, y - high, x + high, y - high, x + 4, y - 4)}"
-    return Curve(line, _head((x + 3, y + 1), -0.35, 0.94), [(x, y - 0.75 * high), (x, y - 0.75 * high - 11)])
+    """From a vertex to itself, above it, or below where that has no room; a later one is farther away."""
+    high = 26.0 + 10 * turn
+    way = -1 if at[1] - radius - 0.75 * high > ROOM else 1
+    x, y = at[0], at[1] + way * radius
+    line = f"M{_numbers(x - 4, y)}C{_numbers(x - high, y + way * high, x + high, y + way * high, x + 4, y + 4 * way)}"
+    points = [(x, y + 0.75 * way * high), (x, y + way * (0.75 * high + 11))]
+    return Curve(line, _head((x + 3, y - way), -0.35, -0.94 * way), points)
 
 
 class Drawing:
