@@ -1,6 +1,7 @@
 """The server's page as it lives, in Chromium: a neighborhood that follows the newest version, and rows a second over an hour."""
 import json
 import math
+import re
 import time
 import unittest
 
@@ -171,7 +172,7 @@ class Rates(LiveCase):
         self.assertEqual(browser.logged, [])
 
     def test_it_goes_on(self):
-        """It is asked for again and again: what came in meanwhile is seen."""
+        """It is asked for again and again: what came in meanwhile is seen, and when it ends where nobody answers."""
         self.fed()
         self.hour([100] * 360)
         browser = Browser()
@@ -183,7 +184,11 @@ class Rates(LiveCase):
         browser.wait_for("document.getElementById('rates-told').textContent === 'at most 10, 10 in the mean'")
         self.hour([300] * 360)
         as_soon_as(lambda: self.text(browser, "rates-told") == "at most 30, 30 in the mean")
-        self.assertEqual(self.text(browser, "rates-begin"), "60 minutes ago")
+        self.assertEqual([self.text(browser, f"rates-{it}") for it in ("begin", "end")], ["60 minutes ago", "now"])
+        browser.see("window.asked = fetch; window.fetch = () => Promise.reject(new TypeError('gone')); 0")
+        as_soon_as(lambda: re.fullmatch(r"\d\d:\d\d:\d\d", self.text(browser, "rates-end")))
+        browser.see("window.fetch = window.asked; 0")
+        as_soon_as(lambda: self.text(browser, "rates-end") == "now")
 
     def test_a_token(self):
         """Nothing is asked before it is entered."""

@@ -41,10 +41,11 @@ const look = async () => {
     end = new Date(Date.now() - told.age * 1000);
     draw();
     tell();
+    the("rates-end").textContent = "now";
 };
-// Looks now, and again and again. (Where the server doesn't answer the page says so by its other parts.)
+// Looks now, and again and again. Where the server doesn't answer the picture says when it ends. (Why it does other parts say.)
 export const begin = () => {
-    const again = () => look().catch(() => {});
+    const again = () => look().catch(() => { the("rates-end").textContent = clock(end); });
     the("rates-picture").addEventListener("pointermove", (event) => {
         const box = the("rates-picture").getBoundingClientRect(), at = Math.floor((event.clientX - box.x) / box.width * rates.length);
         if (at >= 0 && at < rates.length) tell(at);
