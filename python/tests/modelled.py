@@ -200,7 +200,10 @@ class Model:
             return
         (session, edges), path = self.random.choice(self.held), os.path.join(self.room, "saved.csv")
         _, interrupted = self.call(lambda: session.save(path), "save")
-        self.saved = [*self.saved[:interrupted], edges] if self.saved or not interrupted else []
+        if interrupted:  # (it is written, or what was there is there still)
+            self.saved = [*self.saved, edges] if self.saved else []
+        else:
+            self.saved = [edges]
         if self.saved:
             store, is_broken = self.call(lambda: Store.restore(path), "restore")
             if not is_broken:
