@@ -30,6 +30,14 @@ RECIPE = Recipe("delimited", "add", 4_096, False, Pace(1.0, 4_096, None, None, F
 class Made(unittest.TestCase):
     """Calls that another thread makes."""
 
+    def test_a_call_is_made(self):
+        """By another thread, and whoever waits for it goes on."""
+        found = []
+        waits = threading.Thread(target=lambda: found.append(calls.Calls().make(lambda: 5)), daemon=True)
+        waits.start()
+        waits.join(20)
+        self.assertEqual(found, [5])
+
     def test_what_a_call_gives(self):
         made = calls.Calls()
         self.assertEqual([made.make(lambda it=it: it * 2) for it in range(3)], [0, 2, 4])
@@ -77,7 +85,7 @@ class Made(unittest.TestCase):
         made.make(lambda: None)
         self.assertFalse(ended.is_set())
         del made
-        self.assertTrue(ended.wait(60))
+        self.assertTrue(ended.wait(20))
         calls.Calls.__new__(calls.Calls).__del__()  # (one that was never begun)
 
 
