@@ -2,9 +2,8 @@
 from __future__ import annotations
 
 from .calling import MOST_AT_ONCE
-from .library import LibraryEngine
 from .operations import ADD, EXPIRE, REMOVE, Numbered
-from .protocol import Engine
+from .protocol import LIBRARY, Engine
 from ..values import records
 from ..values.fields import numpy_for
 from ..values.limits import MOST_WEIGHT
@@ -14,8 +13,8 @@ SUMS, MIX = 1 << 20, 0x9E37_79B1
 
 
 def may_open(engine: Engine) -> bool:
-    """Whether a store is empty, and in this process alone: what goes into a file has batches there."""
-    return isinstance(engine, LibraryEngine) and not engine.stat().vertices
+    """Whether a store is empty, and in this process."""
+    return engine.name == LIBRARY and not engine.stat().vertices
 
 
 def most_blocks(edges: int, names: int, kinds: int) -> int:

@@ -5,9 +5,10 @@ of before; the desk answers nothing, so that version is held beforehand, and who
 """
 from __future__ import annotations
 
-from typing import Any, Callable, NamedTuple, Optional
+from ctypes import c_uint64
+from typing import NamedTuple, Optional
 
-from .calling import LibraryFlight, check
+from .calling import LibraryFlight, check, columns_of
 from .guard import alone
 from .held import LibraryVersion, Opening
 from .library import LibraryEngine
@@ -17,13 +18,13 @@ from ..values.answers import Commit, Stat
 
 class Ready(NamedTuple):
     """A batch that is ready, the opening that has it and takes the place of the one in use, and the last version, as it is told
-    meanwhile; and by which call of the desk it is accepted or given up, once that is decided."""
+    meanwhile; and whether it is accepted or given up, once that is decided."""
 
     flight: LibraryFlight
     opening: Opening
     before: LibraryVersion
     stat: Stat
-    decided: Optional[Callable[[Any], int]] = None
+    is_accepted: Optional[bool] = None
 
 
 class WaitingEngine(LibraryEngine):
@@ -44,31 +45,40 @@ class WaitingEngine(LibraryEngine):
     @alone
     def finish(self, flight: LibraryFlight) -> Commit:
         """Accepts a batch that is ready, once, however often this is called, and tells what it did."""
-        self._decide(lambda desk: self.library.desk_finish(desk, flight.counts))
+        self._decide(True)
         return self._receipt(flight)
 
     @alone
     def cancel(self) -> None:
         """Gives up the batch that is ready, where there is one: all is as it was."""
-        self._decide(self.library.desk_cancel)
+        self._decide(False)
 
-    def _decide(self, call: Callable[[Any], int]) -> None:
+    def _decide(self, is_accepted: bool) -> None:
         if self._ready is not None:
-            self._ready = self._ready._replace(decided=call)
-            self._do(self._ready, call)
+            self._ready = self._ready._replace(is_accepted=is_accepted)
+            self._do(self._ready)
 
-    def _do(self, ready: Ready, call: Callable[[Any], int]) -> None:
+    def _do(self, ready: Ready) -> None:
         """Does what was decided. The version of before is only its sessions' then: where it has none the desk makes the next one
         in its table."""
         flight, opening = ready.flight, ready.opening
         ready.before.leave_handle()
         self.handles.give_back(self.library)
-        call(opening.desk.raw)  # (it is refused where an interrupt came after it, or before the batch was ready)
+        if not flight.batch.opens:
+            self._do_at(opening, flight, ready.is_accepted)
+        elif ready.is_accepted:
+            self._opening = self._opened(opening, flight, self._stat(opening))
+        self._ready = None
+
+    def _do_at(self, opening: Opening, flight: LibraryFlight, is_accepted: Optional[bool]) -> None:
+        """Has the desk accept its batch or give it up. (It refuses that where an interrupt came after it, or before the batch was
+        ready.)"""
+        desk = opening.desk.raw
+        self.library.desk_finish(desk, flight.counts) if is_accepted else self.library.desk_cancel(desk)
         number = self._stat(opening).version
         if number > opening.number:
             flight.take(opening.before)
             self._opening = opening._replace(number=number, kept=opening.kept + flight.batch.size)
-        self._ready = None
 
     # How the engine does it.
 
@@ -76,19 +86,29 @@ class WaitingEngine(LibraryEngine):
         ready = self._ready
         if ready is not None and self.is_closed:
             raise StoreError("the store is closed")
-        if ready is not None and ready.decided is None:
+        if ready is not None and ready.is_accepted is None:
             return self._opening
-        if ready is not None and ready.decided is not None:
-            self._do(ready, ready.decided)
+        if ready is not None:
+            self._do(ready)
         return super()._settle()
 
     def _applied(self, opening: Opening, flight: LibraryFlight) -> int:
         if not flight.waits:
             return super()._applied(opening, flight)
+        if flight.batch.opens:
+            return self._applied_apart(opening, flight)
         self._ready = Ready(flight, opening, self._last(self._opening), self._stat(self._opening))
         code = self.library.desk_begin(opening.desk.raw, flight.owned.raw)
         if code:
             self._ready = None
+        return code
+
+    def _applied_apart(self, opening: Opening, flight: LibraryFlight) -> int:
+        """The code by which another desk opens with operations, which takes the place of the one in use if they are accepted."""
+        apart = self._new(opening.number, opening.blocks, opening.shape)
+        code = self.library.desk_open_columns(apart.desk.raw, columns_of(flight.batch.columns), c_uint64())
+        if not code:
+            self._ready = Ready(flight, apart, self._last(opening), self._stat(opening))
         return code
 
     def _apply_there(self, moved: Opening, flight: LibraryFlight) -> None:

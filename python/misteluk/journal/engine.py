@@ -9,7 +9,7 @@ from __future__ import annotations
 
 import threading
 import time
-from typing import Any, Callable, Dict, List, Mapping, Optional, Sequence, Tuple
+from typing import Any, Callable, Dict, Iterator, List, Mapping, Optional, Sequence, Tuple
 
 from .bases import Base, columns_of
 from .beside import Beside
@@ -19,10 +19,10 @@ from .passing import Passing
 from .recovery import State, last_of_feed
 from .scripts import Writer
 from .tables import NO_SUM, Settings, Written
-from ..engine.calling import LibraryFlight
+from ..engine.calling import MOST_AT_ONCE, LibraryFlight
 from ..engine.guard import Guard, alone
 from ..engine.held import LibraryVersion
-from ..engine.operations import Operations
+from ..engine.operations import Numbered, Operations
 from ..engine.protocol import Denied, Held
 from ..errors import ReadOnly, SequenceTaken, StoreError
 from ..values.answers import Collected, Commit, Compacted, Stat
@@ -77,6 +77,8 @@ class Journaled(Passing):
     def fly(self, flight: LibraryFlight) -> Commit:
         self._settle()
         batch = flight.batch
+        if batch.opens:
+            return self._open(flight)
         records = self._writer.records_of(flight)
         if batch.post is not None:
             first = self.state.sources.first_answer(batch.post, batch.feeder, records if batch.size else None)
@@ -86,22 +88,46 @@ class Journaled(Passing):
         self._flying = flight
         self._inner.begin(flight)
         try:
-            row = self._written(flight, records)
+            rows = self._written(flight, [records])
         except Exception:
             self._inner.cancel()
             raise
-        return self._booked(self._inner.finish(flight), row)
+        return self._booked(self._inner.finish(flight), rows)
 
-    def _written(self, flight: LibraryFlight, records: bytes) -> Written:
-        """Writes a batch that is ready, with what comes with it."""
+    def _open(self, flight: LibraryFlight) -> Commit:
+        """Opens an empty store with a whole load, which the file has as the batches that it counts as: all of them or none."""
+        if self._inner.stat().vertices:  # (another thread was first)
+            raise Denied("NotEmpty")
+        self._journal.must_be_well()
+        records = list(self._records_in_parts(flight.batch.columns))
+        self._flying = flight
+        self._inner.begin(flight)
+        try:
+            rows = self._written(flight, records)
+        except Exception:
+            self._inner.cancel()
+            raise
+        done = self._booked(self._inner.finish(flight), rows)
+        self._journal.checkpoint()
+        return done
+
+    def _records_in_parts(self, columns: Numbered) -> Iterator[bytes]:
+        """The records of operations, by batches. (Each batch is let go before the next one is made.)"""
+        for at in range(0, len(columns.codes), MOST_AT_ONCE):
+            part = Operations(columns=columns.some(slice(at, at + MOST_AT_ONCE)))
+            yield self._writer.records_of(self._inner.flight(part, False))
+            self._inner.handles.give_back(self._inner.library)
+
+    def _written(self, flight: LibraryFlight, records: Sequence[bytes]) -> List[Written]:
+        """Writes a batch that is ready, with what comes with it; or the batches that a load counts as."""
         batch = flight.batch
         terms = batch.terms or self._terms
         settings = self.settings.with_units(terms.units) if batch.size else self.settings
-        seen = self._seen if terms.names is self._terms.names else 0
-        entry = _entry(flight, records, terms.names.since(seen))
-        row = self._journal.append([entry], settings)[0]
-        self._seen += len(entry.texts) if terms.names is self._terms.names else 0
-        return row
+        texts = terms.names.since(self._seen if terms.names is self._terms.names else 0)
+        entries = [_entry(flight, text, {} if at else texts) for at, text in enumerate(records)]
+        rows = self._journal.append(entries, settings)
+        self._seen += len(texts) if terms.names is self._terms.names else 0
+        return rows
 
     @alone
     def fly_all(self, flights: Sequence[LibraryFlight]) -> List[Commit]:
@@ -118,7 +144,7 @@ class Journaled(Passing):
         rows = self._journal.append(entries, self.settings.with_units(self._terms.units))
         self._seen += len(texts)
         try:
-            return [self._booked(self._inner.fly(flight), row) for flight, row in zip(flights, rows)]
+            return [self._booked(self._inner.fly(flight), [row]) for flight, row in zip(flights, rows)]
         except BaseException as fault:
             raise self._journal.end(f"the file has batches that the store doesn't take ({fault})") from fault
 
@@ -144,10 +170,11 @@ class Journaled(Passing):
         finally:
             self._inner.cancel()
 
-    def _booked(self, receipt: Commit, row: Written) -> Commit:
-        """Takes what the library did with a batch that the file has."""
-        self.state.take(row, receipt)
-        self.beside.grew(row.operations)
+    def _booked(self, receipt: Commit, rows: Sequence[Written]) -> Commit:
+        """Takes what the library did with a batch that the file has, or with those that a load counts as."""
+        for row in rows:
+            self.state.take(row, receipt)
+        self.beside.grew(sum(it.operations for it in rows))
         return receipt
 
     def _settle(self) -> None:
@@ -157,8 +184,8 @@ class Journaled(Passing):
         if flight is None:
             return
         if self._journal.fault is None and self._journal.settle().version > self.state.version:
-            row = self._journal.last()
-            self._booked(self._inner.finish(flight), row)
+            rows = self._journal.behind(self.state.version)
+            self._booked(self._inner.finish(flight), rows)
         else:
             self._inner.cancel()
         self._flying = None
@@ -286,7 +313,8 @@ def _entry(flight: LibraryFlight, records: bytes, texts: Mapping[str, str]) -> E
     """A batch as it is written, with the texts of ids that come with it."""
     batch = flight.batch
     producer, sequence = batch.post or (None, None)
-    return Entry(records, batch.size, texts, flight.drops, producer, sequence, batch.feeder, batch.feed)
+    count = records.count(b"\n") if batch.opens else batch.size
+    return Entry(records, count, texts, flight.drops, producer, sequence, batch.feeder, batch.feed)
 
 
 class AsOf(Passing):

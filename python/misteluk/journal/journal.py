@@ -107,10 +107,9 @@ class Journal:
                 self._is_in_doubt = False
             return self.head
 
-    def last(self) -> Written:
-        """The last batch, as it is written."""
-        with self._alone, faults_told():
-            return next(rows_of(self.opened, self.head.version - 1, self.head.version))
+    def behind(self, version: int) -> List[Written]:
+        """The batches behind a version, as they are written."""
+        return self.read(lambda opened: list(rows_of(opened, version, self.head.version)))
 
     def some_rows(self, after: int, last: int) -> List[Written]:
         """The batches behind a version, up to another one; those of some megabytes at most."""
@@ -167,6 +166,12 @@ class Journal:
             if settings != self.settings:
                 self._write(self.settle(), *settings.written())
                 self.settings = settings
+
+    def checkpoint(self) -> None:
+        """Has all that is written in the database, and the -wal empty, if that can be: who opens the file after a crash looks at
+        all of it."""
+        with self._alone, suppress(sqlite3.Error):
+            self.opened.execute("PRAGMA wal_checkpoint(TRUNCATE)").fetchall()
 
     def shrink(self) -> bool:
         """Gives some of the pages that nothing uses back to the disk, and tells whether there are more. (Where that fails, which
