@@ -5,6 +5,7 @@ import shutil
 import sqlite3
 import struct
 import unittest
+from unittest import mock
 
 from journaled import JournalCase, Model, batch, put, told
 
@@ -12,7 +13,7 @@ from misteluk import Limits, Store
 from misteluk.errors import JournalFault
 from misteluk.journal.checking import check
 from misteluk.journal.replica import FirstFile
-from misteluk.journal.wal import commits_lost
+from misteluk.journal.wal import _Sums, commits_lost
 
 
 def descriptors():
@@ -106,6 +107,20 @@ class Wals(JournalCase):
             self.assertEqual(self.lost(hurt), -1, byte)
             self.assertEqual(self.lost(data[:byte]), 0, byte)
         self.assertEqual((self.lost(data), commits_lost(self.room / "none.db")), (0, 0))
+
+    def test_what_stands_behind_the_last_commit(self):
+        """As much as a load has that a crash ended: nobody adds up its sums; but for a damage before it all is looked at."""
+        with self.fed(5):
+            data = (self.room / "graph.db-wal").read_bytes()
+        begin, _ = self.frames(data)[0]
+        frame = data[begin:begin + 4] + bytes(4) + data[begin + 8:begin + 24 + 4_096]
+        with mock.patch.object(_Sums, "add", autospec=True, side_effect=_Sums.add) as added:
+            counts = [(self.lost(it), added.call_count) for it in (data, data + frame * 50, data[:32] + frame * 50)]
+        self.assertEqual([it for it, _ in counts], [0, 0, 0])
+        self.assertEqual((counts[1][1], counts[2][1]), (2 * counts[0][1], 2 * counts[0][1] + 1))
+        hurt = bytearray(data + frame * 50)
+        hurt[begin + 30] ^= 1
+        self.assertEqual(self.lost(hurt), sum(commit for _, commit in self.frames(data)) - 1)
 
     def test_what_stands_behind_a_wal_that_began_again(self):
         """Frames of the one before count for nothing."""

@@ -43,7 +43,7 @@ def commits_lost(path: Path) -> int:
     sums, is_whole, lost = _Sums(magic), True, 0
     if sums.add(data[:24]) != (one, two) or size not in _PAGE_SIZES:
         return -1
-    for at in range(_HEAD.size, len(data) - _FRAME.size - size + 1, _FRAME.size + size):
+    for at in _committed(data, size):
         begin = at + _FRAME.size
         _, commit, *found, one, two = _FRAME.unpack(data[at:begin])
         if is_whole:
@@ -51,3 +51,10 @@ def commits_lost(path: Path) -> int:
             is_whole = found == salts and sums.add(data[begin:begin + size]) == (one, two)
         lost += not is_whole and found == salts and commit > 0
     return max(lost - 1, 0)
+
+
+def _committed(data: bytes, size: int) -> range:
+    """Where frames begin, up to the one that ends the last commit. (Behind it may be much of a load that a crash ended.)"""
+    frames = range(_HEAD.size, len(data) - _FRAME.size - size + 1, _FRAME.size + size)
+    last = next((it for it in reversed(range(len(frames))) if _FRAME.unpack_from(data, frames[it])[1]), -1)
+    return frames[:last + 1]
