@@ -138,12 +138,13 @@ def looks(path, clients, chance):
 def soak(room, minutes, seed=1, least=4.0, most=12.0):
     """Serves a file for so many minutes, is killed every few seconds, and gives what was met."""
     path, chance, is_over = pathlib.Path(room) / "soaked.db", random.Random(seed), threading.Event()
-    server, begun, took, found = Served(path), time.monotonic(), [], collections.Counter()
-    took.append(server.begin())
+    server, found = Served(path), collections.Counter()
+    took = [server.begin()]
     clients = [Client(it, server.port, is_over) for it in range(CLIENTS)]
     for it in clients:
         it.start()
-    while time.monotonic() - begun < 60 * minutes:
+    end = time.monotonic() + 60 * minutes
+    while not found["kills"] or time.monotonic() < end:
         time.sleep(chance.uniform(least, most))
         server.kill()
         found["kills"] += 1
