@@ -56,8 +56,8 @@ class Parts(Case):
         """The last batch of each producer, and that of each key of each who feeds."""
         rows = [written(1, producer="p", sequence=1), written(2), written(3, producer="q", sequence=0),
                 written(4, producer="p", sequence=2), written(5, producer="p"), written(6, producer="p", feeder="ana"),
-                written(7), written(8), written(9, producer="q", sequence=7), written(10), written(11, producer="p", feeder="ben"),
-                written(12)]
+                written(7), written(8), written(9, producer="q", sequence=7), written(10),
+                written(11, producer="p", feeder="ben"), written(12)]
         self.assertEqual([([it.version for it in some], is_asked) for some, is_asked in parted(rows)],
                          [([1, 2, 3], False), ([4], True), ([5], True), ([6], True), ([7, 8], False), ([9], True), ([10], False),
                           ([11], True), ([12], False)])
