@@ -11,5 +11,8 @@ Choices:
   leaves a batch that nobody was told of, and the next opening has it.
 - The file has what was accepted and in which order, and nothing of blocks: a replay has as many as it needs, whatever is said.
 - What an endless store drops is a mark of the batch before which it did so: a replay drops at the same place.
+- A replay has other batches than those in the file, as large as cost least, since operations leave the same however they are
+  parted; what a batch did is found again only where somebody may ask. A first load is the other way round: the store opens with
+  it in one step, and the file has batches of it, in one write.
 - What producers and keys sent, and how far feeds are in, has no table of its own: batches and bases have it, under their sums.
 """
