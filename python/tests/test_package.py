@@ -144,8 +144,7 @@ class Installs(Case):
         return path
 
     def install(self, *words, env=None, apart=False) -> None:
-        """Without a network: no place of packages is asked; `apart` as pip does it by itself, with a build in an environment of
-        its own, for which nothing is needed."""
+        """Without a network: no place of packages is asked; `apart` with an environment for the build, as pip does by itself."""
         how = () if apart else ("--no-build-isolation", "--no-compile")
         done = run(sys.executable, "-m", "pip", "install", "--no-index", "--quiet", "--disable-pip-version-check", "--target",
                    self.there, *how, *words, cwd=self.room, env=env)

@@ -89,7 +89,7 @@ class Types(Case):
         count = len(list((HERE.parent / "misteluk").rglob("*.py"))) + len(self.programs)
         self.assertRegex(self.last, rf"^Found \d+ errors in 2 files \(checked {count} source files\)$")
         programs = tuple(map(str, self.programs.values()))
-        self.assertEqual([it for it in self.told if not it.startswith(programs)], [])
+        self.assertEqual([it for it in self.told if ": error: " in it and not it.startswith(programs)], [])
 
     def test_a_user_s_program(self) -> None:
         """What mypy takes for the types of weights and times are those that they have: the program is run too."""
