@@ -138,7 +138,8 @@ class Replicas(ServeCase):
                 if self.board.stat.version < last:  # (a server waits where there is nothing more)
                     replica._step(self.board)
             self.assertEqual((told(replica.store), self.board.stat.version), (Model().upto(last).told(), last))
-            self.assertEqual((replica.told(), replica.store.kinds()), ({"behind": 0, "seconds": 0.0}, Model().upto(last).told()[3]))
+            self.assertEqual(replica.told(), {"behind": 0, "seconds": 0.0})
+            self.assertEqual(replica.store.kinds(), Model().upto(last).told()[3])
             self.assertEqual(replica.store._engine.seats, seats)
             with self.board.lent(lease.name) as held:
                 self.assertEqual((held.version, len(held.edges())), (5, len(Model().upto(5).edges)))
