@@ -9,6 +9,9 @@ if TYPE_CHECKING:
 
 # What a name has at its other ends: there the attributes of an edge, or of a graph with several kinds these by kind.
 Row = Dict[str, Any]
+# What sets an item of a row that nobody else can change, too.
+SET: Any = dict.__setitem__
+SET_DEFAULT: Any = dict.setdefault
 
 
 def filled(graph: Any, edges: Edges[Any, Any], by_kind: bool) -> Any:
@@ -27,7 +30,7 @@ def adjacency(edges: Edges[Any, Any], by_kind: bool, make: Type[Row] = dict) -> 
     out, into = ({it: make() for it in names} for _ in range(2))
     sources, targets = (list(map(names.__getitem__, it)) for it in (edges.source, edges.target))
     found = put(map(out.__getitem__, sources), targets, edges, by_kind, make)
-    _set(map(into.__getitem__, targets), sources, found)
+    deque(map(SET, map(into.__getitem__, targets), sources, found), 0)
     return out, into
 
 
@@ -38,14 +41,9 @@ def put(rows: Iterable[Row], others: Sequence[str], edges: Edges[Any, Any], by_k
     found = [make(kind=kind, weight=weight, first=first, recent=recent)
              for kind, weight, first, recent in zip(kinds, *edges._told())]
     if by_kind:
-        found_or_put: Any = dict.setdefault
-        attributes, found = found, list(map(found_or_put, rows, others, (make() for _ in kinds)))
-        _set(found, kinds, attributes)
+        attributes, found = found, list(map(SET_DEFAULT, rows, others, (make() for _ in kinds)))
+        rows, others = found, kinds
     else:
-        _set(rows, others, found)
+        attributes = found
+    deque(map(SET, rows, others, attributes), 0)
     return found
-
-
-def _set(rows: Iterable[Row], keys: Iterable[str], values: Iterable[Row]) -> None:
-    """Sets a key of each row, by `dict`'s own call: the rows may be such as nobody else can change."""
-    deque(map(dict.__setitem__, rows, keys, values), 0)
