@@ -9,14 +9,13 @@ if TYPE_CHECKING:
 
 # What a name has at its other ends: there the attributes of an edge, or of a graph with several kinds these by kind.
 Row = Dict[str, Any]
-# What sets an item of a row that nobody else can change, too.
-SET: Any = dict.__setitem__
-SET_DEFAULT: Any = dict.setdefault
+# Puts what isn't there yet into a row, also into one that nobody else can change. (It is the quickest call that puts something.)
+PUT: Any = dict.setdefault
 
 
 def filled(graph: Any, edges: Edges[Any, Any], by_kind: bool) -> Any:
-    """An empty graph of networkx, with each name as a node and all edges: its dicts are put in place, which takes a fourth of the
-    time of its calls."""
+    """An empty graph of networkx, with each name as a node and all edges: its dicts are put in place, which takes less than half
+    of the time of its calls."""
     graph._node = {it: {} for it in edges.names}
     graph._succ, graph._pred = adjacency(edges, by_kind)
     graph._adj = graph._succ
@@ -29,8 +28,8 @@ def adjacency(edges: Edges[Any, Any], by_kind: bool, make: Type[Row] = dict) -> 
     names = edges.names
     out, into = ({it: make() for it in names} for _ in range(2))
     sources, targets = (list(map(names.__getitem__, it)) for it in (edges.source, edges.target))
-    found = put(map(out.__getitem__, sources), targets, edges, by_kind, make)
-    deque(map(SET, map(into.__getitem__, targets), sources, found), 0)
+    found = put(map(list(out.values()).__getitem__, edges.source), targets, edges, by_kind, make)
+    deque(map(PUT, map(list(into.values()).__getitem__, edges.target), sources, found), 0)
     return out, into
 
 
@@ -38,12 +37,10 @@ def put(rows: Iterable[Row], others: Sequence[str], edges: Edges[Any, Any], by_k
     """Puts each edge into its row, at its other end. Gives what stands there: its attributes, or the dict that has them by
     kind."""
     kinds = list(map(edges.kinds.__getitem__, edges.kind))
-    found = [make(kind=kind, weight=weight, first=first, recent=recent)
-             for kind, weight, first, recent in zip(kinds, *edges._told())]
-    if by_kind:
-        attributes, found = found, list(map(SET_DEFAULT, rows, others, (make() for _ in kinds)))
-        rows, others = found, kinds
-    else:
-        attributes = found
-    deque(map(SET, rows, others, attributes), 0)
+    attributes = [make(kind=kind, weight=weight, first=first, recent=recent)
+                  for kind, weight, first, recent in zip(kinds, *edges._told())]
+    if not by_kind:
+        return list(map(PUT, rows, others, attributes))
+    found: List[Row] = list(map(PUT, rows, others, (make() for _ in kinds)))
+    deque(map(PUT, found, kinds, attributes), 0)
     return found
