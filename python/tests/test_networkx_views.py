@@ -328,7 +328,7 @@ class Made(Case):
         self.assertEqual(sorted(map(str, graph.in_edges(data="lanes"))), sorted(map(str, graph.edges(data="lanes"))))
 
     def test_its_dicts_are_put_in_place(self):
-        """Which takes less than half of the time of networkx's calls: none is made."""
+        """Which takes less than a third of the time of networkx's calls: none is made."""
         session = self.store(*ROADS).open()
         for kind in (networkx.DiGraph, networkx.MultiDiGraph):
             with mock.patch.object(kind, "add_edges_from", side_effect=AssertionError), mock.patch.object(

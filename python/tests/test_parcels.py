@@ -17,6 +17,7 @@ from misteluk.feeds.rejects import Rejected
 from misteluk.feeds.spans import ahead_time, shown_length
 from misteluk.feeds.steps import FeedMark, FeedPlace, Followed
 from misteluk.values.answers import Commit
+from misteluk.values.collector import no_collection
 from misteluk.values.parcels import packed, unpacked
 from misteluk.values.units import Units
 

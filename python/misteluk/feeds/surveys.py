@@ -19,6 +19,7 @@ from .terms import Terms
 from ..engine.operations import COMMANDS as OF_COMMANDS, Dictionary, Numbered
 from ..errors import BadTime, Place, Refused
 from ..values import records
+from ..values.collector import no_collection
 from ..values.columns import FieldColumn
 from ..values.fields import numpy_for
 
