@@ -191,6 +191,7 @@ class Among(Case):
             self.assertEqual(session.degrees(among=some), wanted)
             with mock.patch.object(totals, "numpy_for", lambda count: None):
                 self.assertEqual(session.degrees(among=some), wanted)
+        self.assertEqual(list(totals.summed(array("I", [1]) * 512, array("q", [1 << 54]) * 512, 2)), [0, 1 << 63])
         great = (1 << 63) - 1
         for most, least in ((1 << 40, -5), (1 << 40, -(1 << 40)), (great, -5), (great, -great), (5, -great)):
             ends = array("I", [random_.randrange(4) for _ in range(1_000)])
