@@ -17,7 +17,7 @@ from bench.measuring import watch
 from bench.places import TOP
 
 NAMES, THREADS = 20_000, 8
-QUESTIONS = ("edge", "out_of", "degrees")
+QUESTIONS = ("edge", "has_vertex", "degrees")
 Times = Dict[str, List[float]]
 
 

@@ -184,7 +184,7 @@ def questions(address: str, until: float, counts: List[int]) -> None:
     count = 0
     with socket.create_connection((host, int(port))) as link:
         while time.time() < until:
-            link.sendall(b"GET /v1/out_of?vertex=v%d HTTP/1.1\r\nHost: localhost\r\n\r\n" % (count % NAMES))
+            link.sendall(b"GET /v1/out_edges?source=v%d HTTP/1.1\r\nHost: localhost\r\n\r\n" % (count % NAMES))
             head, _, body = link.recv(1 << 16).partition(b"\r\n\r\n")
             left = int(head.lower().partition(b"content-length: ")[2].split(b"\r\n")[0]) - len(body)
             while left > 0:

@@ -95,7 +95,7 @@ class Page(ServeCase):
 
     def test_what_it_held_is_lost(self):
         """It says so, until another version is held; and a server that doesn't answer for a while hasn't lost it."""
-        self.fed(limits=ServerLimits(idle=3))
+        self.fed(limits=ServerLimits(idle=6))
         browser = self.open()
         self.hold(browser)
         browser.see("window.asked = fetch; window.fetch = () => Promise.reject(new TypeError('gone')); 0")
@@ -107,7 +107,7 @@ class Page(ServeCase):
         self.server.board.let_all_go()
         told = browser.wait_for("!document.getElementById('fault').hidden && document.getElementById('fault').textContent")
         self.assertEqual(told, "Version 1, which this page held, is lost: the server began anew, or heard nothing from this page "
-                               "for 3 s.")
+                               "for 6 s.")
         self.look(browser, "funnel")
         self.assertEqual(self.text(browser, "fault"), told)
         browser.wait_for("!document.getElementById('held').textContent.includes('this page')")

@@ -246,7 +246,7 @@ class Views(ServeCase):
     def test_a_picture_by_keys(self):
         """Of a neighborhood each vertex is reached, and kept by Enter, which the page around it is told."""
         self.fed()
-        path = self.file("view.html", self.ask("/v1/view?vertex=funnel&hops=1").body.decode())
+        path = self.file("view.html", self.ask("/v1/view?around=funnel&hops=1").body.decode())
         browser = Browser()
         self.addCleanup(browser.close)
         browser.go(f"file://{path}")

@@ -59,7 +59,7 @@ class OfOperations(unittest.TestCase):
             self.assertEqual(Operations(columns=columns).vertices(), named(rows))
             self.assertEqual(columns.some(slice(begin, None)).vertices(), named(rows[begin:]))
             self.assertEqual(apart.vertices(), named(rows))
-            self.assertEqual(operations_of(records_of(rows).encode()).vertices(), named(rows))
+            self.assertEqual(operations_of([records_of(rows).encode()]).vertices(), named(rows))
         self.assertEqual(Operations().vertices(), [])
 
 

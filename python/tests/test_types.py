@@ -22,7 +22,7 @@ def find_mypy() -> Optional[List[str]]:
 
 # What a user's program has first and last: stores of several units, each with an edge.
 BEGIN = ("from datetime import datetime", "from decimal import Decimal", "from typing import Optional, Union, List",
-         "from misteluk import Degree, Edge, Edges, Session, Store, Units", "",
+         "from misteluk import Degree, Edge, Edges, Flow, Session, Store, Units", "",
          "cents = Store(units=Units(weight_scale=100, times='iso'))", "cents.add('k', 'a', 'b', '1.50', '2024-03-04')",
          "cents.commit()", "floats = Store(units=Units(weight_scale=100, decimals='float'))", "floats.add('k', 'a', 'b', 1.5)",
          "floats.commit()", "whole = Store(units=Units(1, 'number'))", "whole.add('k', 'a', 'b', 7, 3)", "whole.commit()", "")
@@ -34,6 +34,9 @@ RIGHT = (
     "    edge: Optional[Edge[Decimal, datetime]] = session.edge('k', 'a', 'b')",
     "    assert edge is not None and isinstance(edge.weight, Decimal) and edge.recent.year == 2024",
     "    degree: Degree[Decimal] = session.degrees()['a']",
+    "    flow: Flow[Decimal] = session.flows(session, kind='k')['a']",
+    "    among: Degree[Decimal] = session.degrees(among=['a', 'b'])['a']",
+    "    assert among == degree and flow == Flow(0, 0, Decimal(0), Decimal(0))",
     "    assert total(session) == degree.weight_out == session.weights_in()['b'] == Decimal('1.50')",
     "    found: List[Optional[Edge[Decimal, datetime]]] = session.get_edges([('k', 'a', 'b')])",
     "    others: List[Union[Edge[Decimal, datetime], None, str]] = session.get_edges([('k', 'a', 'c')], missing='none')",
