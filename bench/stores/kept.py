@@ -5,6 +5,7 @@ from __future__ import annotations
 import contextlib
 import functools
 import http.client
+import multiprocessing
 import os
 import pathlib
 import random
@@ -178,7 +179,7 @@ def posted(clients: int, seconds: float, room: pathlib.Path) -> List[float]:
     return times
 
 
-def questions(address: str, until: float, counts: List[int]) -> None:
+def questions(address: str, until: float, counts: "multiprocessing.Queue[int]") -> None:
     """Asks for edges of vertices one after another, as plainly as can be, so that the server has the processor."""
     host, _, port = address.rpartition(":")
     count = 0
@@ -190,25 +191,27 @@ def questions(address: str, until: float, counts: List[int]) -> None:
             while left > 0:
                 left -= len(link.recv(left))
             count += 1
-    counts.append(count)
+    counts.put(count)
 
 
 def answered(replicas: int, edges: int, clients: int, seconds: float, room: pathlib.Path) -> float:
     """How many questions a second so many replicas of a store answer, together."""
-    counts: List[int] = []
+    counts: "multiprocessing.Queue[int]" = multiprocessing.Queue()
     place = room / "first.db"
     with contextlib.ExitStack() as stack:
         stack.enter_context(loaded(place, edges))
         addresses = [stack.enter_context(server("--replica-of", place)) for _ in range(replicas)]
         until = time.time() + seconds
-        threads = [threading.Thread(target=questions, args=(addresses[it % replicas], until, counts)) for it in range(clients)]
-        for it in threads:
+        # (each asks in a process of its own: threads of one would wait for each other)
+        asking = [multiprocessing.Process(target=questions, args=(addresses[it % replicas], until, counts)) for it in range(clients)]
+        for it in asking:
             it.start()
-        for it in threads:
+        found = [counts.get(timeout=seconds + 60) for _ in asking]
+        for it in asking:
             it.join()
     for left in room.glob("first.db*"):
         left.unlink()
-    return sum(counts) / seconds
+    return sum(found) / seconds
 
 
 WHERE: Dict[str, Callable[..., Spent]] = {it: committed for it in ("memory", "full", "normal", "table")}
