@@ -203,7 +203,8 @@ def answered(replicas: int, edges: int, clients: int, seconds: float, room: path
         addresses = [stack.enter_context(server("--replica-of", place)) for _ in range(replicas)]
         until = time.time() + seconds
         # (each asks in a process of its own: threads of one would wait for each other)
-        asking = [multiprocessing.Process(target=questions, args=(addresses[it % replicas], until, counts)) for it in range(clients)]
+        asking = [multiprocessing.Process(target=questions, args=(addresses[it % replicas], until, counts))
+                  for it in range(clients)]
         for it in asking:
             it.start()
         found = [counts.get(timeout=seconds + 60) for _ in asking]
