@@ -161,7 +161,9 @@ class _HeldGraph:
         """Returns a graph of networkx's own class that has all edges, and can be changed; with `as_view` what networkx gives."""
         if as_view:
             return self._plain.copy(self, as_view=True)
-        return filled(self._plain(**self.graph), self._read.edges(), self._read.by_kind)
+        made = self._plain()
+        made.graph.update(self.graph)
+        return filled(made, self._read.edges(), self._read.by_kind)
 
     def __reduce__(self) -> Any:
         return copy, (self.copy(),)

@@ -12,7 +12,7 @@ from unittest import mock
 
 from interrupting import places
 from journaled import JournalCase, of_sqlite, ran, told
-from support import HERE, Case, row
+from support import HERE, Case, kill, row
 from test_journal_refused import Failing
 
 from misteluk import Store, Units
@@ -73,7 +73,7 @@ class Loads(LoadCase):
             store = self.opened()
             self.assertEqual(store.load(rows, by="set").commit, wanted)
             flights = [it.args[1].batch.opens for it in begun.call_args_list]
-            self.assertEqual((flights, told(store), store.kinds), ([3], told(memory), memory.kinds))
+            self.assertEqual((flights, told(store), store.kinds()), ([3], told(memory), memory.kinds()))
         self.assertEqual(self.rows("SELECT version, operations FROM batches"), [(1, SIZE), (2, SIZE), (3, ROWS - 2 * SIZE)])
         self.assertEqual(os.path.getsize(f"{self.path}-wal"), 0)
         store.add("k0", "v1", "Новое", 1, 5)
@@ -233,7 +233,7 @@ class Scene:
             assert {tuple(it[:3]): tuple(it[3]) for it in session.edges()} == found, "the file"
 
     def end(self):
-        self.store._kill()
+        kill(self.store)
 
 
 class Interrupts(Case):

@@ -207,6 +207,8 @@ class Views(Case):
                 made.add_edge("bonn", "ulm", colour="blue")
                 self.assertEqual(plain(view), before)
                 self.assertEqual({about.get("weight", 77) for *_, about in made.in_edges(data=True)}, {77})
+            view.graph[7] = "a key that is no text"
+            self.assertEqual(view.copy().graph, {**view.graph})
             for part in (view.adj, view._adj, view._node, view["ulm"], view._adj["ulm"], view.edges, view.nodes):
                 for again in (pickle.loads(pickle.dumps(part)), copy.deepcopy(part)):
                     self.assertEqual(plain(again), plain(part))
