@@ -25,7 +25,7 @@ from misteluk.serve.server import Server
 
 if HAS_PACKAGES:
     from misteluk.serve.flow import within
-    from misteluk.serve.news import Bell, known_of
+    from misteluk.serve.news import Bell
     from misteluk.serve.board import Full
 
 FED = {"rows": 7, "bad": 2, "expired": 3, "behind": 11, "state": "followed"}
@@ -279,12 +279,6 @@ class Bells(unittest.TestCase):
         """Who waits goes on where what it waits for isn't there yet."""
         bell = Bell()
         self.assertTrue(0.2 < self.waits(bell, lambda: False, 0.25, later=bell.ring) < 15)
-
-    def test_what_a_reader_knows(self):
-        for text, known in (("run:7", 7), ("run:0", 0), ("run:" + "9" * 19, 10**19 - 1), ("run:" + "1" * 20, -1), ("run:", -1),
-                            ("run", -1), ("other:7", -1), ("run:-7", -1), ("run:\u0667", -1), ("run:7:8", -1), (None, -1)):
-            request = mock.Mock(headers={} if text is None else {"last-event-id": text})
-            self.assertEqual(known_of(request, "run"), known, text)
 
     def test_what_is_late(self):
         async def late():
