@@ -322,7 +322,8 @@ class Running(ServeCase):
     def test_how_fast_it_is_fed(self):
         server = self.serve()
         with mock.patch.object(type(server.feeding.rate), "a_second", return_value=1.26):
-            self.assertEqual(server._api._counted()["rows_a_second"], 1.3)
+            _, told = asyncio.run(server._api._event(None))
+            self.assertEqual((told["rows_a_second"], told["touched"]), (1.3, None))
 
     def threads(self, method, path, body=None):
         """By which threads a request is answered."""
