@@ -20,6 +20,8 @@ IN_PROCESS = r"\.\.\. skipped 'of stores in process alone'"
 SERVED = ("against_program", "arrays", "closing", "names", "objects", "read_only", "store", "units", "view", "view_browsers",
           "view_dense", "walking", "walking_calls")
 OF_SERVER = ("starlette", "uvicorn")
+# How many files more than there are processors run at once, since many wait for what a server does.
+WAITING = 2
 
 
 def run(part: Tuple[str, bool], compiled: str) -> Tuple[str, str, str]:
@@ -60,9 +62,9 @@ def main(*wanted: str) -> int:
               f"{' '.join('python3-' + it for it in missing)})")
     passed = failed = passed_over = 0
     with tempfile.TemporaryDirectory() as compiled, \
-            concurrent.futures.ThreadPoolExecutor(max(2, len(os.sched_getaffinity(0)))) as pool:
+            concurrent.futures.ThreadPoolExecutor(WAITING + len(os.sched_getaffinity(0))) as pool:
         has_server = not set(OF_SERVER) & set(missing)
-        parts = [(name, False) for name in names] + [(name, True) for name in names if has_server and name[5:-3] in SERVED]
+        parts = [(name, True) for name in names if has_server and name[5:-3] in SERVED] + [(name, False) for name in names]
         for name, took, text in pool.map(functools.partial(run, compiled=compiled), parts):
             ran = re.search(r"(?m)^Ran (\d+) tests? in", text)
             bad = sum(map(int, re.findall(r"(?:failures|errors)=(\d+)", text.splitlines()[-1] if text else "")))
