@@ -29,7 +29,8 @@ from bench.stores.by_columns import EXPORTS, LOADS
 
 Figures = Dict[str, float]
 Run = Tuple[str, int, int]
-FIRST: List[Run] = [("rmat", 16, 500_000), ("transfers", 17, 3 << 17), ("rmat", 20, 8_000_000), ("transfers", 20, 3 << 20)]
+FIRST: List[Run] = [("rmat", 16, 500_000), ("transfers", 17, 3 << 17), ("rmat", 20, 8_000_000), ("transfers", 20, 3 << 20),
+                    ("rmat", 22, 32_000_000)]
 IN_PYTHON: List[Run] = [("rmat", 16, 500_000), ("rmat", 19, 5_000_000), ("rmat", 20, 10_000_000)]
 QUICK: List[Run] = [("rmat", 14, 1 << 17), ("transfers", 14, 3 << 14)]
 OUT: Run = ("rmat", 16, 500_000)

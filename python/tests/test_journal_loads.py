@@ -5,7 +5,6 @@ import os
 import random
 import subprocess
 import sys
-import threading
 import time
 import unittest
 from unittest import mock
@@ -13,7 +12,7 @@ from unittest import mock
 from interrupting import places
 from journaled import JournalCase, of_sqlite, ran, told
 from support import HERE, Case, kill, row
-from test_journal_refused import Failing
+from test_journal_refused import Failing, Watching
 
 from misteluk import Store, Units
 from misteluk.engine import openings
@@ -178,14 +177,7 @@ class Broken(LoadCase):
             kept.append(it.hold(None))
             seen.append((it.stat().version, kept[0].number, kept[0].count))
 
-        class Watching(Failing):
-            def execute(self, words, *values):
-                if words == "COMMIT":
-                    other = threading.Thread(target=asks)
-                    other.start()
-                    other.join(60)
-                return self.inner.execute(words, *values)
-        it._journal.opened = Watching(it._journal.opened, "", None)
+        it._journal.opened = Watching(it._journal.opened, asks)
         store.load(some_rows(), by="set")
         it._journal.opened = it._journal.opened.inner
         self.assertEqual((seen, self.graph(store), kept[0].count), ([(0, 0, 0)], graph_of(some_rows()), 0))

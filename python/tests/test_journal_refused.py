@@ -132,6 +132,21 @@ class Failing:
         return getattr(self.inner, name)
 
 
+class Watching(Failing):
+    """A connection beside which another thread asks, just before each commit."""
+
+    def __init__(self, inner, asks):
+        super().__init__(inner, "", None)
+        self.asks = asks
+
+    def execute(self, words, *values):
+        if words == "COMMIT":
+            other = threading.Thread(target=self.asks)
+            other.start()
+            other.join(60)
+        return self.inner.execute(words, *values)
+
+
 class Failed(JournalCase):
     """A batch that can't be written leaves the store and its sessions as they were."""
 
@@ -252,14 +267,7 @@ class Failed(JournalCase):
             seen.append((engine.stat().version, *told_of(engine)))
             kept.append(engine.hold(None))
 
-        class Watching(Failing):
-            def execute(self, words, *values):
-                if words == "COMMIT":
-                    other = threading.Thread(target=asks)
-                    other.start()
-                    other.join(60)
-                return self.inner.execute(words, *values)
-        journal.opened = Watching(journal.opened, "", None)
+        journal.opened = Watching(journal.opened, asks)
         for number in (3, 4):
             put(store, batch(number))
             self.assertEqual(told(store), Model().upto(number).told())
