@@ -72,7 +72,7 @@ def measure(words: argparse.Namespace, room: pathlib.Path) -> None:
     with tempfile.TemporaryDirectory(dir=room) as name:
         spent, *asked = based(BASED // part, pathlib.Path(name))
     before, meanwhile = (percentile(it, 95) for it in asked)
-    print(f"\na base of {BASED // part:,} rows' edges: made in {tables.seconds(spent.processor)} with questions beside it, whose "
+    print(f"\na base of {BASED // part:,} rows' edges: made in {tables.seconds(spent)} with questions beside it, whose "
           f"95th percentile is {tables.seconds(before)} before and {tables.seconds(meanwhile)} meanwhile")
     rates = [answered(it, REPLICATED // part, CLIENTS, SECONDS / part / 2, room) for it in REPLICAS]
     print("\n" + "; ".join(f"{count} replica{'s' * (count > 1)}: {rate:,.0f} questions a second" for count, rate in

@@ -87,6 +87,9 @@ def loaded(place: pathlib.Path, edges: int) -> "Store[Any, Any]":
     """A store with a file that has so many edges, or some fewer."""
     store: "Store[Any, Any]" = Store(place, sync="off")
     store.load([it[1:] for it in rows(edges, edges // 4)], by="set", progress=False)
+    for it in threading.enumerate():  # (so much is reason enough for a base, which it makes by itself)
+        if it.name == "compaction":
+            it.join()
     return store
 
 
@@ -124,13 +127,19 @@ def asked(store: "Store[Any, Any]", is_over: Callable[[], bool]) -> List[float]:
     return times
 
 
-def based(edges: int, room: pathlib.Path) -> Tuple[Spent, List[float], List[float]]:
-    """What a base of so many edges takes, and how long questions took before it and while it was made."""
+def based(edges: int, room: pathlib.Path) -> Tuple[float, List[float], List[float]]:
+    """The seconds of the processor that a base of so many edges takes, without those of who asks meanwhile; and how long
+    questions took before it and while it was made."""
     with loaded(room / "based.db", edges) as store:
         until = time.monotonic() + 2
         before = asked(store, lambda: time.monotonic() > until)
-        spent: List[Spent] = []
-        making = threading.Thread(target=lambda: spent.append(timed(store.file.compact)[1]))
+        spent: List[float] = []
+
+        def make() -> None:
+            begun = time.thread_time()
+            store.file.compact()
+            spent.append(time.thread_time() - begun)
+        making = threading.Thread(target=make)
         making.start()
         meanwhile = asked(store, lambda: not making.is_alive())
         making.join()

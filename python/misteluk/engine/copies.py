@@ -7,9 +7,9 @@ order gets a loop edge, which is inserted and removed.
 from __future__ import annotations
 
 from array import array
-from typing import Any, Iterator, List, NamedTuple, Tuple
+from typing import Any, Dict, Iterator, List, NamedTuple, Tuple
 
-from .operations import INSERT, REMOVE, Dictionary, Numbered
+from .operations import INSERT, REMOVE, Listed, Numbered
 from .protocol import WHOLE, Arrays, Held
 from ..values.fields import numpy_for
 
@@ -60,6 +60,8 @@ def opening_of(content: Content) -> Tuple[Numbered, Numbered]:
     """The insertions that make an empty store hold the content, with loop edges that only have a name or a kind known in its
     order; and behind all of them the removals of these loops. (One that is an edge of the content is inserted as that.)"""
     found = operations_of(content)
+    if not found.has(REMOVE):
+        return found, found.some(slice(0))
     codes = found.codes.tobytes()
     insertions, removals = found.only(codes.translate(_ARE_KEPT)), found.only(codes.translate(_ARE_REMOVED))
     own = _loops_of_first(content.edges) if removals.codes else {}
@@ -69,7 +71,7 @@ def opening_of(content: Content) -> Tuple[Numbered, Numbered]:
     return insertions, removals.only(bytes(bool(source or target) or kind not in own for source, target, kind in are_loops))
 
 
-def _loops_of_first(edges: Arrays) -> "dict[int, int]":
+def _loops_of_first(edges: Arrays) -> Dict[int, int]:
     """The places of edges from the first name to itself, by their kinds."""
     numpy = numpy_for(edges.size)
     if numpy is None:
@@ -81,43 +83,44 @@ def _loops_of_first(edges: Arrays) -> "dict[int, int]":
 
 def _no_operations(content: Content) -> Numbered:
     columns: Any = map(array, "BIIIqQ")
-    return Numbered._make([*columns, Dictionary.of(content.kinds), Dictionary.of(content.names)])
+    return Numbered._make([*columns, Listed(content.kinds), Listed(content.names)])
 
 
 def _items(content: Content, is_begun: bool) -> Iterator[int]:
-    """In order the places of edges, and below 0 the numbers of names that need a loop, -1 for the first one: the edges by the
-    later one of their ends, so that each makes at most that one known."""
-    edges, count = content.edges, len(content.names)
-    groups: List[List[int]] = [[] for _ in range(count + 1)]
-    for at, ends in enumerate(zip(edges.sources, edges.targets)):
-        groups[max(ends)].append(at)
-    for name in range(count):
-        yield from groups[name]
-        if groups[name] or is_begun and not name:
-            continue
-        # An edge from this name to the next one, where there is one, makes both known in their order.
-        behind = groups[name + 1]
-        both = next((place for place, it in enumerate(behind) if edges.sources[it] == name), None)
-        if both is None:
-            yield ~name
-        else:
-            behind.insert(0, behind.pop(both))
+    """In order the places of edges, and below 0 the numbers of names that need a loop, -1 for the first one. At first comes for
+    each name the first edge of which it is the later end, which makes it known; then all other edges, as they stand."""
+    sources, targets, count = content.edges.sources, content.edges.targets, len(content.names)
+    first: Dict[int, int] = {}
+    for at, ends in enumerate(zip(sources, targets)):
+        first.setdefault(max(ends), at)
+    is_idle = [name not in first and not (is_begun and not name) for name in range(count)]
+    # An edge from such a name to the next one, where there is one, makes both known in their order.
+    both: Dict[int, int] = {}
+    for at, (source, target) in enumerate(zip(sources, targets)):
+        if target == source + 1 and is_idle[source]:
+            both.setdefault(source, at)
+    first.update((source + 1, at) for source, at in both.items())
+    chosen = [first.get(name, ~name) for name in range(count) if (name in first or is_idle[name]) and name not in both]
+    yield from chosen
+    yield from sorted({*range(content.edges.size)} - {*chosen})
 
 
 def _items_at_once(numpy: Any, content: Content, is_begun: bool) -> Any:
     """The same by whole columns."""
     sources, targets = (numpy.asarray(it).astype("int64") for it in content.edges[1:3])
-    later = numpy.maximum(sources, targets)
-    is_idle = numpy.bincount(later, minlength=len(content.names)) == 0
-    is_idle[:1] &= not is_begun
+    places, names = numpy.arange(len(sources)), numpy.arange(len(content.names))
+    first = ~names
+    first[numpy.maximum(sources, targets)[::-1]] = places[::-1]  # (of several places the last one stays)
+    is_idle, is_chosen = first < 0, numpy.ones(len(names), dtype=bool)
+    is_chosen[:1] = not (is_begun and is_idle[0])
+    is_idle &= is_chosen
     both = numpy.flatnonzero((targets == sources + 1) & is_idle[sources])
     both = both[numpy.unique(sources[both], return_index=True)[1]]
-    is_idle[sources[both]] = False
-    order = 2 * later + 1
-    order[both] -= 1  # (they come first of those with this later end)
-    loops = numpy.flatnonzero(is_idle)
-    items = numpy.concatenate([numpy.arange(len(later)), ~loops])
-    return items[numpy.argsort(numpy.concatenate([order, 2 * loops]), kind="stable")]
+    first[sources[both] + 1] = both
+    is_chosen[sources[both]] = False
+    chosen, is_left = first[is_chosen], numpy.ones(len(places), dtype=bool)
+    is_left[chosen[chosen >= 0]] = False
+    return numpy.concatenate([chosen, places[is_left]])
 
 
 def _put_loop(found: Numbered, kind: int, name: int) -> None:
@@ -143,12 +146,14 @@ def _put_at_once(numpy: Any, found: Numbered, edges: Arrays, items: Any) -> None
     places = numpy.where(is_loop, 0, items)
     kinds, sources, targets, weights, firsts, recents = (numpy.asarray(it)[places] for it in edges)
     counts = 1 + (is_loop | (firsts != recents))
-    at = numpy.repeat(numpy.arange(len(items)), counts)
-    is_second = numpy.zeros(len(at), dtype=bool)
-    is_second[1:] = at[1:] == at[:-1]
-    is_loop, names = is_loop[at], ~items[at]
-    columns = (numpy.where(is_loop & is_second, REMOVE, INSERT), numpy.where(is_loop, 0, kinds[at]),
-               numpy.where(is_loop, names, sources[at]), numpy.where(is_loop, names, targets[at]),
-               numpy.where(is_loop, 0, weights[at]), numpy.where(is_loop, 0, numpy.where(is_second, recents[at], firsts[at])))
+    columns = numpy.full(len(items), INSERT), kinds, sources, targets, weights, firsts
+    if len(items) < counts.sum():
+        at = numpy.repeat(numpy.arange(len(items)), counts)
+        is_second = numpy.zeros(len(at), dtype=bool)
+        is_second[1:] = at[1:] == at[:-1]
+        is_loop, names = is_loop[at], ~items[at]
+        columns = (numpy.where(is_loop & is_second, REMOVE, INSERT), numpy.where(is_loop, 0, kinds[at]),
+                   numpy.where(is_loop, names, sources[at]), numpy.where(is_loop, names, targets[at]),
+                   numpy.where(is_loop, 0, weights[at]), numpy.where(is_loop, 0, numpy.where(is_second, recents[at], firsts[at])))
     for column, values, form in zip(found[:6], columns, ("u1", "u4", "u4", "u4", "i8", "u8")):
         column.frombytes(values.astype(form).tobytes())

@@ -5,7 +5,7 @@ A removal has no weight and time, 0, and an expiry nothing but its time.
 from __future__ import annotations
 
 from array import array
-from collections import defaultdict, deque
+from collections import defaultdict
 from itertools import accumulate, chain, compress, count, islice
 from operator import itemgetter
 from typing import TYPE_CHECKING, Any, Callable, DefaultDict, Dict, Iterable, List, NamedTuple, Optional, Sequence, Tuple
@@ -35,13 +35,6 @@ class Dictionary:
         self.numbers: DefaultDict[str, int] = defaultdict(count().__next__)
         self._encoded: Tuple[bytes, "array[int]"] = (b"", array("Q"))
 
-    @staticmethod
-    def of(names: Iterable[str]) -> "Dictionary":
-        """The one of names that are numbered in this order."""
-        made = Dictionary()
-        deque(map(made.numbers.__getitem__, names), 0)
-        return made
-
     def column(self, names: Sequence[str]) -> "array[int]":
         """The numbers of names."""
         if not names or names[0] == names[-1] and names.count(names[0]) == len(names):
@@ -66,8 +59,29 @@ class Dictionary:
     def encoded(self) -> "Tuple[bytes, array[int]]":
         """The names one after another, and where each ends."""
         if len(self._encoded[1]) != len(self.numbers):
-            names = [it or NO_NAME for it in self.numbers]
-            self._encoded = "".join(names).encode("ascii"), array("Q", accumulate(map(len, names)))
+            self._encoded = _encoded([it or NO_NAME for it in self.numbers])
+        return self._encoded
+
+
+def _encoded(names: Sequence[str]) -> "Tuple[bytes, array[int]]":
+    return "".join(names).encode("ascii"), array("Q", accumulate(map(len, names)))
+
+
+class Listed(Dictionary):
+    """Names by number that are all there, each once; they aren't asked for any more."""
+
+    def __init__(self, names: Sequence[str]) -> None:
+        super().__init__()
+        self._names = names
+
+    @property
+    def names(self) -> List[str]:
+        return list(self._names)
+
+    @property
+    def encoded(self) -> "Tuple[bytes, array[int]]":
+        if not self._encoded[1]:
+            self._encoded = _encoded(self._names)
         return self._encoded
 
 
