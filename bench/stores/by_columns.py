@@ -8,7 +8,7 @@ from typing import Any, Callable, Dict, Tuple
 import numpy
 
 from bench.calls import loaded, must
-from bench.measuring import of_process, timed
+from bench.measuring import of_process, timed, watch
 from bench.stores.growing import Store, at, columns_of, texts
 from misteluk import Columns
 from misteluk import Store as Client
@@ -175,11 +175,15 @@ def exports(shape: str, scale: int, edges: int, room: pathlib.Path) -> Dict[str,
              "save": lambda: after.save(room / "saved.csv"), "restore": lambda: Client.restore(room / "saved.csv").close()}
     found = {name: timed(work)[1].processor for name, work in works.items()}
 
-    def opens() -> None:
-        for _ in range(OPENS):
-            store.open().close()
-    found["open()"] = timed(opens)[1].processor / OPENS
-    return found
+    opening = closing = 0.0
+    for _ in range(OPENS):
+        spent = watch()
+        session = store.open()
+        opening += spent().processor
+        spent = watch()
+        session.close()
+        closing += spent().processor
+    return {**found, "open()": opening / OPENS, "close()": closing / OPENS}
 
 
 def exports_of_pandas(shape: str, scale: int, edges: int, room: pathlib.Path) -> Dict[str, float]:

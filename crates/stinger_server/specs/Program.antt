@@ -12,7 +12,7 @@ use Rattle.stream_store.specs.{Configs.{ConfigView, AreSizesWithin, standard_con
 use Rattle.stinger_server.specs.declared.arguments.{RunOptions.RunOptions, Order.Order}
 use Rattle.stinger_server.specs.declared.arguments.Order.TheVariants as order
 use Rattle.script_server.specs.declared.script.{ServeFault.{ServeFault, TheVariants.{Read, Start, Write}}, Summary.Summary}
-use Rattle.script_server.specs.{Executions.input, Texts.IsText}
+use Rattle.script_server.specs.{Executions.input, Segments.IsMachineText, Texts.IsText}
 use Rattle.script_server.specs.Writes.{AppendsPart, AppendsSome}
 use Rattle.script_commands.specs.States.{set_up}
 use Rattle.store_drive.specs.{Reports.{IsReaderCount, IsReport, drive_word_text}, declared.reports.DriveFault.DriveFault}
@@ -305,14 +305,16 @@ abbrev pub IsNotedLine : {F : Type 0} → (F → Option (List ℕ)) → Option (
 IsNotedLine contents None old new = new ≡ old
 IsNotedLine contents (Some line) old new = AppendsPart (contents old) (contents new) line
 
--- the bytes that were to be read were served, in a run of these sizes: the run came to this, with its status, its text, and
--- its line on standard error
+-- the bytes that were to be read were served, in a run of these sizes: the run came to this, with its status, its text, which is
+-- the machine's too, and its line on standard error
 pub record IsServed {F : Type 0} (sizes : ConfigView) (remaining : Option (List ℕ)) (status : ℕ) (old new : Option (List ℕ))
     (contents : F → Option (List ℕ)) (line_of : Result Summary ServeFault → Option (List ℕ)) (faults faults' : F) : Type 0 where
   pub outcome : Result Summary ServeFault
   pub ends : status ≡ exit_status outcome
   pub text : IfSome remaining (λ bytes. (done : ℕ) × AppendsSome old new
       (IsText (input (set_up sizes) (records_of bytes)) done outcome))
+  pub machine : IfSome remaining (λ bytes. (done : ℕ) × AppendsSome old new
+      (IsMachineText (input (set_up sizes) (records_of bytes)) done outcome))
   pub noted : IsNotedLine contents (line_of outcome) faults faults'
 
 abbrev pub EndsWith : List ℕ → List ℕ → Type 0
