@@ -1,4 +1,4 @@
-"""What an operator sees of a server: whether it is ready, its numbers, its service manager, and nginx before it."""
+"""What an operator sees of a server: whether it is ready, its numbers, its service manager, and a proxy before it."""
 import json
 import os
 import pathlib
@@ -25,7 +25,7 @@ from misteluk.serve.metrics import BOUNDS, Counts
 from misteluk.serve.notify import Manager
 
 SHARE = TOP / "share/serve"
-NGINX = shutil.which("nginx") or shutil.which("nginx", path="/usr/sbin")
+NGINX, CADDY = shutil.which("nginx") or shutil.which("nginx", path="/usr/sbin"), shutil.which("caddy")
 PARSER = optional("prometheus_client")
 COLUMNS = Columns(1, 2, weight=3, time=4, default_kind="k")
 
@@ -259,10 +259,8 @@ class Shared(Case):
         self.assertEqual((list(found["services"]), sorted(found)), (["graph"], ["secrets", "services", "volumes"]))
 
 
-@unittest.skipUnless(NGINX, "nginx is not there")
-@unittest.skipUnless(SHARE.is_dir(), "share/ is not there")
-class Proxy(ServeCase):
-    """nginx with the lines of share/serve before a server with tokens, under a path."""
+class Proxied(ServeCase):
+    """A server with tokens behind a proxy that has the lines of share/serve, under a path."""
 
     def setUp(self):
         super().setUp()
@@ -270,22 +268,22 @@ class Proxy(ServeCase):
         with socket.socket() as free:
             free.bind(("127.0.0.1", 0))
             self.port = free.getsockname()[1]
-        lines = (SHARE / "nginx.conf").read_text().replace("127.0.0.1:7700", f"127.0.0.1:{self.server.address.port}")
-        room = pathlib.Path(self.room)
-        paths = "".join(f"{name}_temp_path {room}/{name};\n" for name in ("client_body", "proxy", "fastcgi", "uwsgi", "scgi"))
-        conf = self.file("nginx.conf", f"pid {room}/pid;\nerror_log stderr;\ndaemon off;\nmaster_process off;\nevents {{}}\n"
-                         f"http {{\naccess_log off;\n{paths}server {{\nlisten 127.0.0.1:{self.port};\n{lines}\n}}\n}}\n")
-        proxy = subprocess.Popen([NGINX, "-p", str(room), "-c", conf], stdout=subprocess.DEVNULL, stderr=subprocess.DEVNULL)
+        proxy = subprocess.Popen(self.words(), stdout=subprocess.DEVNULL, stderr=subprocess.DEVNULL,
+                                 env={**os.environ, "XDG_CONFIG_HOME": str(self.room), "XDG_DATA_HOME": str(self.room)})
         self.addCleanup(proxy.wait)
         self.addCleanup(proxy.terminate)
         self.url = f"http://127.0.0.1:{self.port}/graph"
         as_soon_as(self.is_there)
 
+    def lines(self, name):
+        """Those of a file, which leads to this test's server."""
+        return (SHARE / name).read_text().replace("127.0.0.1:7700", f"127.0.0.1:{self.server.address.port}")
+
     def is_there(self):
         with socket.socket() as there:
             return there.connect_ex(("127.0.0.1", self.port)) == 0
 
-    def test_clients_in_python(self):
+    def clients_in_python(self):
         self.assertRaises(NotAllowed, connect, self.url, token="another-one")
         with connect(self.url, token="open-sesame") as store:
             store.load([(f"s{it % 30}", f"t{it // 30}", it, it) for it in range(60_000)], by="set", progress=False)
@@ -295,8 +293,7 @@ class Proxy(ServeCase):
                 store.commit()
                 self.assertEqual(session.edge_count, 60_000)
 
-    @unittest.skipUnless(CHROMIUM, "Chromium is not there")
-    def test_a_browser_holds(self):
+    def a_browser_holds(self):
         """The page is under the path too, asks and holds through it, and draws."""
         with connect(self.url, token="open-sesame") as store:
             store.add("k", "ana", "bob", 5, 1)
@@ -312,6 +309,40 @@ class Proxy(ServeCase):
         self.assertEqual([it.clients for it in self.server.board.held()], [1])
         browser.see("document.getElementById('vertex').value = 'ana'; document.getElementById('look').requestSubmit()")
         browser.wait_for("!document.getElementById('view').hidden && document.getElementById('view').style.height !== ''")
+
+
+@unittest.skipUnless(NGINX, "nginx is not there")
+@unittest.skipUnless(SHARE.is_dir(), "share/ is not there")
+class Nginx(Proxied):
+    def words(self):
+        room, lines = pathlib.Path(self.room), self.lines("nginx.conf")
+        paths = "".join(f"{name}_temp_path {room}/{name};\n" for name in ("client_body", "proxy", "fastcgi", "uwsgi", "scgi"))
+        conf = self.file("nginx.conf", f"pid {room}/pid;\nerror_log stderr;\ndaemon off;\nmaster_process off;\nevents {{}}\n"
+                         f"http {{\naccess_log off;\n{paths}server {{\nlisten 127.0.0.1:{self.port};\n{lines}\n}}\n}}\n")
+        return [NGINX, "-p", str(room), "-c", conf]
+
+    def test_clients_in_python(self):
+        self.clients_in_python()
+
+    @unittest.skipUnless(CHROMIUM, "Chromium is not there")
+    def test_a_browser(self):
+        self.a_browser_holds()
+
+
+@unittest.skipUnless(CADDY, "Caddy is not there")
+@unittest.skipUnless(SHARE.is_dir(), "share/ is not there")
+class Caddy(Proxied):
+    def words(self):
+        lines = self.lines("Caddyfile").replace("graph.example.com", f"http://127.0.0.1:{self.port}")
+        conf = self.file("Caddyfile", f"{{\n\tadmin off\n}}\n{lines}")
+        return [CADDY, "run", "--config", conf, "--adapter", "caddyfile"]
+
+    def test_clients_in_python(self):
+        self.clients_in_python()
+
+    @unittest.skipUnless(CHROMIUM, "Chromium is not there")
+    def test_a_browser(self):
+        self.a_browser_holds()
 
 
 if __name__ == "__main__":
