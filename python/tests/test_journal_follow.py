@@ -67,7 +67,9 @@ class Seeks(FollowCase):
         more = lines(200_000, 201_000)
         self.write(more)
         with self.opened() as store, self.counted():
-            rows = [it.rows for it in self.follow(store)]
+            following = self.follow(store)
+            self.assertFalse(following._reads_again)
+            rows = [it.rows for it in following]
         self.assertEqual(rows[-1], 201_000)
         self.assertGreaterEqual(self.read, len(more))
         self.assertLessEqual(self.read, 2 * growing.MOST_READ + len(more))

@@ -204,6 +204,23 @@ class FollowedFeeds(Case):
         os.close(write)
         self.assertEqual([it.behind for it in self.follow(file)], [None])
 
+    def test_what_helps_against_bad_rows(self):
+        followed = self.follow(self.file("bad.csv", 'a,b,"1,50",1\n'), until_end=True)
+        self.assertRaisesRegex(misteluk.BadRows, r"Amounts as 12,50 are read by decimal=','", next, followed)
+
+    def test_rows_that_were_skipped(self):
+        """Who follows apart is told of them at once where no row before them is pending; else they go with the next batch."""
+        path, told = self.file("rows.csv", ""), []
+        followed = self.follow(path, every=60, skip_bad=True)
+        followed.on_skipped = lambda: told.append(followed._place.done)
+        for row, wanted in (("a,b,x,1\n", [1]), ("a,b,1,1\n", [1]), ("a,b,x,1\n", [1])):
+            with open(path, "a") as file:
+                file.write(row)
+            for _ in range(2):  # (it is read, and then taken)
+                followed._go_on()
+            self.assertEqual(told, wanted)
+        self.assertEqual((followed._place.done, len(followed._lines)), (3, 1))
+
     def test_bad_rows_alone_are_written(self):
         """They wait for no commit."""
         file, write = self.pipe("b,,3,3\n")
