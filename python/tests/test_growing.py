@@ -97,6 +97,22 @@ class Ends(SourceCase):
             gc.collect()
         self.assertEqual((said.call_count, descriptors()), (0, before))
 
+    def test_a_file_that_was_left(self):
+        """It ends once it is removed, and then only where nothing came for long."""
+        path = self.file("f.csv", "a,b,1,1\n")
+        source = self.source(path, path=path)
+        later = source._still + growing.REMOVED + 1
+        self.assertFalse(source.is_left)
+        with mock.patch.object(growing.time, "monotonic", side_effect=lambda: now):
+            for is_left in (True, False):
+                source.is_left = is_left
+                for now in (later, later - 2):
+                    self.assertFalse(source._is_gone())
+            os.remove(path)
+            for now, is_left in ((later, True), (later, False), (later - 2, True)):
+                source.is_left = is_left
+                self.assertEqual(source._is_gone(), (now, is_left) == (later, True))
+
     def test_it_is_closed_once(self):
         """The numbers of its descriptors may be another's by then."""
         source = Growing(self.file("f.csv", "a,b\n"))
