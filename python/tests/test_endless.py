@@ -140,7 +140,7 @@ class Endless(Case):
         made by batches, since a name has no edge.)"""
         store = self.store("insert k s0 early 1 1", "insert k s0 gone 1 1", "remove k s0 gone",
                            *(f"insert k s{at} z 1 1" for at in range(13)), blocks=16)
-        for operation in ("insert k s13 z 1 1", "insert k last z 1 1", "insert k last z 1 9", "insert k early z 1 1"):
+        for operation in ("insert k s13 z 1 1", "insert k early z 1 1", "insert k early z 1 9", "insert k last z 1 1"):
             self.feed(store, operation)
         old = store.open()
         edges = list(old.edges())
