@@ -21,11 +21,11 @@ pub record IsNamedAfter (earlier later : VersionView) : Type 0 where
   pub kinds : BeginsWith (content earlier).kinds (content later).kinds
 
 -- each source is above the one before it
-abbrev pub AreRising : List VertexId → Type 0
-AreRising sources = AllPairs (λ s t. s.0 < t.0) sources
+abbrev pub AreSourcesRising : List VertexId → Type 0
+AreSourcesRising sources = AllPairs (λ s t. s.0 < t.0) sources
 
 -- two versions of one graph, and the sources at which their rows may differ
 pub record ArePair (earlier later : VersionView) (sources : List VertexId) : Type 0 where
   pub named : IsNamedAfter earlier later
   pub differ : DifferAt sources earlier.rows later.rows
-  pub rising : AreRising sources
+  pub rising : AreSourcesRising sources

@@ -4,7 +4,7 @@ ghost use Rattle.std.specs.Prelude.{◌≡◌};
 ghost use Rattle.std.specs.Arc.{arc_value};
 ghost use Rattle.graph_version.specs.declared.versions.Version.{Version};
 ghost use Rattle.graph_version.specs.Differences.{DifferAt};
-ghost use Rattle.version_diff.specs.Pairs.{PairView, IsNamedAfter, AreRising, version_pair};
+ghost use Rattle.version_diff.specs.Pairs.{PairView, IsNamedAfter, AreSourcesRising, version_pair};
 
 use graph_types::VertexId;
 use graph_version::Version;
@@ -54,7 +54,7 @@ impl VersionPair {
     pub fn of(earlier: Arc<Version>, later: Arc<Version>, sources: Vec<VertexId>) -> VersionPair
         requires named { IsNamedAfter (arc_value {X = Version} earlier) (arc_value {X = Version} later) }
         requires differ { DifferAt sources.items (arc_value {X = Version} earlier).rows (arc_value {X = Version} later).rows }
-        requires rising { AreRising sources.items }
+        requires rising { AreSourcesRising sources.items }
         ensures { result ≡ version_pair (arc_value {X = Version} earlier) (arc_value {X = Version} later) }
     {
         VersionPair {
