@@ -1,0 +1,4 @@
+pub mod Apart
+pub mod Onward
+pub mod PassedOver
+pub mod Seen
