@@ -1,5 +1,5 @@
 -- Edges of a row: no two have one kind and one target.
-use Rattle.std.proofs.Common.{◌≡◌, ℕ, ◌==◌, List, [], ◌∷◌, ◌++◌, map, cond, Bool, true, false, Option, None, Some, All}
+use Rattle.std.proofs.Common.{◌≡◌, ℕ, ◌==◌, List, [], ◌∷◌, ◌++◌, map, cond, Bool, true, false, Option, None, Some}
 use Rattle.std.proofs.Common.{refl, sym, ap, ◌∙◌, arith, inl, inr}
 use Rattle.std.proofs.lemmas.{Grind.common_steps, Bool.{false≢true, eq-eqb, Decides.eqb_tells}, List.Elements.{All-head, All-tail}}
 use Rattle.std.specs.{Prelude.filter, Option.{option_or, is_some}}

@@ -4,7 +4,7 @@ use Rattle.std.proofs.Common.{refl, sym, ap, ◌∙◌, arith, append_assoc, app
 use Rattle.std.proofs.{lemmas.{Bool.ne_eqb, List.{get_or-drop, length-drop, nil_from_length}}, Math.Seq.drop-cons}
 use Rattle.std.specs.{List.list_any, Prelude.◌||◌}
 use Rattle.graph_types.specs.declared.ids.{Filter.Filter, VertexId.VertexId}
-use Rattle.graph_version.specs.{Rows.row_of, Versions.IsVersion}
+use Rattle.graph_version.specs.{Versions.IsVersion}
 use Rattle.edge_block.specs.Slots.{BlockView}
 use Rattle.version_diff.specs.{Pairs.{PairView, ArePair, AreSourcesRising}, Differences.{seen_in, seen_from, difference_of, difference_at, differences_from}}
 use Rattle.version_diff.specs.declared.rows.EdgeDifference.{EdgeDifference}

@@ -1,8 +1,8 @@
 -- An edge that bears the same in two rows is no difference, and may be left out of both.
-use Rattle.std.proofs.Common.{◌≡◌, ℕ, ◌==◌, List, [], ◌∷◌, ◌++◌, cond, Bool, true, false, Option, None, Some}
+use Rattle.std.proofs.Common.{◌≡◌, ℕ, List, [], ◌∷◌, ◌++◌, cond, Bool, true, false, Option, None, Some}
 use Rattle.std.proofs.Common.{refl, sym, ap, ◌∙◌, arith}
 use Rattle.std.proofs.lemmas.{Grind.common_steps, Bool.eq-eqb}
-use Rattle.std.specs.{Prelude.filter_map, List.cons_option, Option.option_or}
+use Rattle.std.specs.{Prelude.filter_map, List.cons_option}
 use Rattle.edge_block.specs.Lending.{LentEdge}
 use Rattle.graph_types.specs.Graph.{Stamp}
 use Rattle.version_diff.specs.declared.rows.EdgeDifference.{EdgeDifference}

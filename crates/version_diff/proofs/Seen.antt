@@ -1,8 +1,8 @@
 -- The edges of blocks that a filter lets through, and which of them is one of a kind to a target.
 use Rattle.std.proofs.Common.{◌≡◌, ℕ, ◌+◌, ◌<◌, ◌==◌, List, [], ◌∷◌, ◌++◌, map, length, get_or, drop, cond, Bool, true, false}
 use Rattle.std.proofs.Common.{Option, None, Some, refl, sym, ap, ◌∙◌, arith, add-one}
-use Rattle.std.proofs.{Math.Seq.drop-cons, lemmas.{Grind.common_steps, Bool.false≢true}}
-use Rattle.std.specs.{Prelude.{filter, filter_map}, declared.{sync.Arc.Arc, alloc.Global.Global}, Option.option_or}
+use Rattle.std.proofs.{Math.Seq.drop-cons, lemmas.{Grind.common_steps}}
+use Rattle.std.specs.{Prelude.{filter}, declared.{sync.Arc.Arc, alloc.Global.Global}, Option.option_or}
 use Rattle.graph_types.specs.{Graph.{Key, Stamp}, View.in_view, declared.ids.Filter.Filter}
 use Rattle.edge_block.specs.{Slots.{BlockView, Slot, entry_in, edges_in, stamp_at}, Lending.{LentEdge, lent_of}, declared.blocks.Block.Block}
 use Rattle.graph_version.specs.Sharing.{block_value, block_values}

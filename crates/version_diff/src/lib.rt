@@ -5,6 +5,7 @@
 #![tactic(auto)]
 
 mod columns;
+mod left;
 mod pairs;
 mod rows;
 mod sources;

@@ -4,11 +4,12 @@ ghost use Rattle.std.specs.Prelude.{◌≡◌, ◌++◌, IsTrue, OnOk};
 ghost use Rattle.std.specs.Option.{option_map};
 ghost use Rattle.edge_block.specs.Lending.{lent_edge};
 ghost use Rattle.graph_version.specs.Sharing.{block_values};
-ghost use Rattle.version_diff.specs.Differences.{seen_in_block, seen_in, edge_to, bears_same, marks_of, gone_edge, gone_among, not_same_among, difference_of, if_not_same};
+ghost use Rattle.version_diff.specs.Differences.{seen_in_block, seen_in, edge_to, bears_same, marks_of, gone_edge, gone_among, not_same_among, difference_of, if_not_same, AreApart};
 
+use crate::left::left_of;
 use edge_block::{Block, EdgeRef};
 use graph_types::{Filter, KindId};
-use std::alloc::AllocError;
+use std::alloc::{AllocError, Global};
 use std::sync::Arc;
 
 /// The state of an edge that is gone.
@@ -215,15 +216,19 @@ fn push_not_same(
 
 /// Adds what became of a source's edges from its earlier blocks to its later ones.
 pub(crate) fn push_difference(
+    alloc: Global,
     differences: &mut Vec<EdgeDifference>,
     earlier: &[Arc<Block>],
     later: &[Arc<Block>],
     view: &Filter,
     source: u32,
 ) -> Result<(), AllocError>
+    requires earlier { AreApart (seen_in view.now (block_values earlier.now)) }
+    requires later { AreApart (seen_in view.now (block_values later.now)) }
     ensures { OnOk result (differences.new.items ≡ differences.old.items
         ++ difference_of source (seen_in view.now (block_values earlier.now)) (seen_in view.now (block_values later.now))) }
 {
-    push_gone(differences, earlier, later, view, source)?;
-    push_not_same(differences, later, earlier, view, source)
+    let left = left_of(alloc, earlier, later, view)?;
+    push_gone(differences, &left.earlier, &left.later, view, source)?;
+    push_not_same(differences, &left.later, &left.earlier, view, source)
 }

@@ -20,6 +20,7 @@ pub(crate) enum Found {
 
 /// Adds what became of a source's edges.
 fn push_source(
+    alloc: Global,
     differences: &mut Vec<EdgeDifference>,
     pair: &VersionPair,
     view: &Filter,
@@ -29,7 +30,7 @@ fn push_source(
 {
     let earlier = pair.earlier().row_blocks(source);
     let later = pair.later().row_blocks(source);
-    push_difference(differences, earlier, later, view, source.0)
+    push_difference(alloc, differences, earlier, later, view, source.0)
 }
 
 /// Finds what became of the edges of the sources from one on, source by source, as far as there is room.
@@ -53,7 +54,7 @@ pub(crate) fn find_differences(
             break;
         }
         let before = differences.len();
-        push_source(&mut differences, pair, view, *source)?;
+        push_source(alloc, &mut differences, pair, view, *source)?;
         let count = differences.len();
         if count > room {
             if before == 0 {

@@ -1,6 +1,6 @@
-use Rattle.std.proofs.Common.{◌≡◌, List, true, length, sym, ap, ◌∙◌, subst, rules, arith}
+use Rattle.std.proofs.Common.{◌≡◌, List, true, length, ap, ◌∙◌, subst, rules, arith}
 use Rattle.version_diff.specs.Columns.{DiffColumns, diff_columns, mark_columns, are_alike, with_differences, IsFound}
-use Rattle.version_diff.specs.declared.{rows.EdgeDifference.EdgeDifference, sources.Found.Found}
+use Rattle.version_diff.specs.declared.{rows.EdgeDifference.EdgeDifference}
 use Rattle.version_diff.proofs.columns.write_differences.Goals as goal
 
 pub returns-in-Whole : goal.returns-in-Whole

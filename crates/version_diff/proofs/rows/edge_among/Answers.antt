@@ -1,6 +1,6 @@
-use Rattle.std.proofs.Common.{◌≡◌, ◌++◌, ◌+◌, Option, None, Some, List, get_or, drop, sym, ap, ◌∙◌}
+use Rattle.std.proofs.Common.{◌≡◌, ◌++◌, ◌+◌, None, List, get_or, drop, sym, ap, ◌∙◌}
 use Rattle.std.specs.{Option.{option_or, option_map}, declared.{sync.Arc.Arc, alloc.Global.Global}}
-use Rattle.edge_block.specs.{Lending.{LentEdge, lent_edge}, declared.blocks.Block.Block}
+use Rattle.edge_block.specs.{Lending.{lent_edge}, declared.blocks.Block.Block}
 use Rattle.graph_version.specs.Sharing.{block_value, block_values}
 use Rattle.version_diff.specs.Differences.{seen_in_block, seen_in, edge_to}
 use Rattle.version_diff.proofs.Seen.{edge_to-append, next_seen}

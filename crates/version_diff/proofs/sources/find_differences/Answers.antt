@@ -1,8 +1,8 @@
-use Rattle.std.proofs.Common.{◌≡◌, ℕ, ◌+◌, ◌-◌, ◌<◌, ◌≤◌, ◌==◌, ◌++◌, List, [], length, get_or, drop, take, false, inl, inr, sym, ap, ◌∙◌, arith, length-append}
+use Rattle.std.proofs.Common.{◌≡◌, ℕ, ◌<◌, ◌≤◌, ◌==◌, ◌++◌, List, length, get_or, drop, take, false, inl, inr, sym, ap, ◌∙◌, arith, length-append}
 use Rattle.std.proofs.{lemmas.{List.nil_from_length, Bool.Decides.leb_tells}, Math.Seq.take-append_seam}
 use Rattle.std.specs.List.{list_any}
 use Rattle.graph_types.specs.declared.ids.VertexId.{VertexId}
-use Rattle.version_diff.specs.Differences.{difference_at, differences_from}
+use Rattle.version_diff.specs.Differences.{difference_at}
 use Rattle.version_diff.specs.declared.rows.EdgeDifference.{EdgeDifference}
 use Rattle.version_diff.proofs.Onward.{further, one_more, before_next, behind_all, past_one, nothing_until}
 use Rattle.version_diff.proofs.sources.find_differences.Goals as goal
