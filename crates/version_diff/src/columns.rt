@@ -33,21 +33,21 @@ fn are_all_long(
     kinds: &[u32],
     sources: &[u32],
     targets: &[u32],
-    old_weights: &[i64],
-    old_firsts: &[u64],
-    old_recents: &[u64],
-    new_weights: &[i64],
-    new_firsts: &[u64],
-    new_recents: &[u64],
+    weights_before: &[i64],
+    firsts_before: &[u64],
+    recents_before: &[u64],
+    weights_after: &[i64],
+    firsts_after: &[u64],
+    recents_after: &[u64],
 ) -> bool
     ensures { result ≡ are_as_long length kinds.now sources.now targets.now
-        (mark_columns old_weights.now old_firsts.now old_recents.now) (mark_columns new_weights.now new_firsts.now new_recents.now) }
+        (mark_columns weights_before.now firsts_before.now recents_before.now) (mark_columns weights_after.now firsts_after.now recents_after.now) }
 {
     kinds.len() == length
         && sources.len() == length
         && targets.len() == length
-        && are_marks_long(length, old_weights, old_firsts, old_recents)
-        && are_marks_long(length, new_weights, new_firsts, new_recents)
+        && are_marks_long(length, weights_before, firsts_before, recents_before)
+        && are_marks_long(length, weights_after, firsts_after, recents_after)
 }
 
 /// Writes what became of edges, one after another.
@@ -57,32 +57,32 @@ fn write_each(
     kinds: &mut [u32],
     sources: &mut [u32],
     targets: &mut [u32],
-    old_weights: &mut [i64],
-    old_firsts: &mut [u64],
-    old_recents: &mut [u64],
-    new_weights: &mut [i64],
-    new_firsts: &mut [u64],
-    new_recents: &mut [u64],
+    weights_before: &mut [i64],
+    firsts_before: &mut [u64],
+    recents_before: &mut [u64],
+    weights_after: &mut [i64],
+    firsts_after: &mut [u64],
+    recents_after: &mut [u64],
 )
     requires long { are_alike (diff_columns states.old kinds.old sources.old targets.old
-        (mark_columns old_weights.old old_firsts.old old_recents.old) (mark_columns new_weights.old new_firsts.old new_recents.old)) ≡ true }
+        (mark_columns weights_before.old firsts_before.old recents_before.old) (mark_columns weights_after.old firsts_after.old recents_after.old)) ≡ true }
     requires room { length differences.now ≤ length states.old }
     ensures { diff_columns states.new kinds.new sources.new targets.new
-        (mark_columns old_weights.new old_firsts.new old_recents.new) (mark_columns new_weights.new new_firsts.new new_recents.new)
+        (mark_columns weights_before.new firsts_before.new recents_before.new) (mark_columns weights_after.new firsts_after.new recents_after.new)
         ≡ with_differences 0 differences.now (diff_columns states.old kinds.old sources.old targets.old
-        (mark_columns old_weights.old old_firsts.old old_recents.old) (mark_columns new_weights.old new_firsts.old new_recents.old)) }
+        (mark_columns weights_before.old firsts_before.old recents_before.old) (mark_columns weights_after.old firsts_after.old recents_after.old)) }
 {
     for (at, difference) in differences.iter().enumerate() {
         states[at] = difference.state;
         kinds[at] = difference.kind;
         sources[at] = difference.source;
         targets[at] = difference.target;
-        old_weights[at] = difference.before.weight;
-        old_firsts[at] = difference.before.first;
-        old_recents[at] = difference.before.recent;
-        new_weights[at] = difference.after.weight;
-        new_firsts[at] = difference.after.first;
-        new_recents[at] = difference.after.recent;
+        weights_before[at] = difference.before.weight;
+        firsts_before[at] = difference.before.first;
+        recents_before[at] = difference.before.recent;
+        weights_after[at] = difference.after.weight;
+        firsts_after[at] = difference.after.first;
+        recents_after[at] = difference.after.recent;
     }
 }
 
@@ -106,19 +106,19 @@ pub fn write_differences(
     kinds: &mut [u32],
     sources: &mut [u32],
     targets: &mut [u32],
-    old_weights: &mut [i64],
-    old_firsts: &mut [u64],
-    old_recents: &mut [u64],
-    new_weights: &mut [i64],
-    new_firsts: &mut [u64],
-    new_recents: &mut [u64],
+    weights_before: &mut [i64],
+    firsts_before: &mut [u64],
+    recents_before: &mut [u64],
+    weights_after: &mut [i64],
+    firsts_after: &mut [u64],
+    recents_after: &mut [u64],
     count: &mut u64,
 ) -> Result<(), DiffError>
     ensures { WritesDifferences view.now pair.now
         (diff_table source.old (diff_columns states.old kinds.old sources.old targets.old
-        (mark_columns old_weights.old old_firsts.old old_recents.old) (mark_columns new_weights.old new_firsts.old new_recents.old)))
+        (mark_columns weights_before.old firsts_before.old recents_before.old) (mark_columns weights_after.old firsts_after.old recents_after.old)))
         (diff_table source.new (diff_columns states.new kinds.new sources.new targets.new
-        (mark_columns old_weights.new old_firsts.new old_recents.new) (mark_columns new_weights.new new_firsts.new new_recents.new)))
+        (mark_columns weights_before.new firsts_before.new recents_before.new) (mark_columns weights_after.new firsts_after.new recents_after.new)))
         count.new result }
 {
     let room = states.len();
@@ -127,12 +127,12 @@ pub fn write_differences(
         kinds,
         sources,
         targets,
-        old_weights,
-        old_firsts,
-        old_recents,
-        new_weights,
-        new_firsts,
-        new_recents,
+        weights_before,
+        firsts_before,
+        recents_before,
+        weights_after,
+        firsts_after,
+        recents_after,
     ) {
         return Err(DiffError::BadLength);
     }
@@ -151,12 +151,12 @@ pub fn write_differences(
                 kinds,
                 sources,
                 targets,
-                old_weights,
-                old_firsts,
-                old_recents,
-                new_weights,
-                new_firsts,
-                new_recents,
+                weights_before,
+                firsts_before,
+                recents_before,
+                weights_after,
+                firsts_after,
+                recents_after,
             );
             *count = differences.len() as u64;
             *source = next;

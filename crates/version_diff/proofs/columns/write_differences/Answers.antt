@@ -9,8 +9,8 @@ returns-in-Whole c =
     let p = c.args.pair.now in
     let old : DiffColumns =
     diff_columns c.args.states.now c.args.kinds.now c.args.sources.now c.args.targets.now
-    (mark_columns c.args.old_weights.now c.args.old_firsts.now c.args.old_recents.now)
-    (mark_columns c.args.new_weights.now c.args.new_firsts.now c.args.new_recents.now) in
+    (mark_columns c.args.weights_before.now c.args.firsts_before.now c.args.recents_before.now)
+    (mark_columns c.args.weights_after.now c.args.firsts_after.now c.args.recents_after.now) in
     let found = subst (IsFound f p c.args.source.now (length c.args.states.now)) c.in-Whole.is c.in-Ok.ensures in
     let alike : are_alike old ≡ true = search rules in (
       alike,

@@ -1,0 +1,127 @@
+//! What became of edges from one held version to a later one.
+
+ghost use Rattle.std.specs.Prelude.{◌≡◌, ◌==◌, ◌⊎◌, Some, None, MatchBool, false};
+ghost use Rattle.std.specs.Option.{option_copied};
+ghost use Rattle.misteluk_c.specs.Held.{Asks};
+ghost use Rattle.misteluk_c.specs.Diffs.{held_pair, diff_table_in, AreTheDiffColumns, TellsDiff};
+ghost use Rattle.misteluk_c.specs.Diffs as diffs;
+
+use crate::codes::{BAD_LENGTH, BAD_SIZE, MEMORY, NO_HANDLE, NO_KIND, OK};
+use std::alloc::Global;
+use store_handles::{Handle, Held};
+use version_columns::{View, filter_of};
+use version_diff::{DiffError, VersionPair, write_differences};
+
+/// Columns that what became of edges is written to.
+#[derive(Drop)]
+#[repr(C)]
+pub struct DiffColumns<'a> {
+    /// How many bytes the struct has for who gives it: what lies past them is none of it.
+    pub size: usize,
+    pub states: &'a mut [u8],
+    pub kinds: &'a mut [u32],
+    pub sources: &'a mut [u32],
+    pub targets: &'a mut [u32],
+    pub weights_before: &'a mut [i64],
+    pub firsts_before: &'a mut [u64],
+    pub recents_before: &'a mut [u64],
+    pub weights_after: &'a mut [i64],
+    pub firsts_after: &'a mut [u64],
+    pub recents_after: &'a mut [u64],
+}
+
+/// How large that struct is.
+const DIFF_SIZE: usize = 168;
+
+/// Ends what a handle holds, if it holds anything, and leaves it empty.
+#[unsafe(no_mangle)]
+pub extern "C" fn misteluk_diff_free(alloc: Global, diff: &mut Handle)
+    ensures { diff.new.held ≡ None }
+{
+    drop(diff.take(alloc));
+}
+
+/// Writes what became of the edges of sources from one on.
+#[unsafe(no_mangle)]
+pub extern "C" fn misteluk_diff_edges(
+    alloc: Global,
+    diff: &mut Handle,
+    view: &View,
+    source: &mut u32,
+    into: &mut DiffColumns<'_>,
+    count: &mut u64,
+) -> u32
+    ensures same { diff.new.held ≡ diff.old.held }
+    ensures struct_same { AreTheDiffColumns into.old into.new }
+    ensures told { MatchBool (into.old.size == 168) (Asks (held_pair diff.old.held) result
+        (λ p. TellsDiff p view.now source.old into.old source.new into.new count.new result)) (result ≡ 21) }
+    ensures none { (into.old.size == 168 ≡ false) ⊎ (held_pair diff.old.held ≡ None)
+        → (diff_table_in 0 into.new ≡ diff_table_in 0 into.old) × (source.new ≡ source.old) × (count.new ≡ count.old) }
+{
+    if into.size != DIFF_SIZE {
+        return BAD_SIZE;
+    }
+    let Some(held) = diff.take(alloc) else {
+        return NO_HANDLE;
+    };
+    let code = match pair_in(&held) {
+        Some(pair) => differences_to(alloc, pair, view, source, into, count),
+        None => NO_HANDLE,
+    };
+    diff.put(held);
+    code
+}
+
+/// The pair, if one is held.
+fn pair_in(held: &Held) -> Option<&VersionPair>
+    ensures { option_copied result ≡ held_pair (Some held.now) }
+{
+    match held {
+        Held::Pair(pair) => Some(pair),
+        _ => None,
+    }
+}
+
+fn differences_to(
+    alloc: Global,
+    pair: &VersionPair,
+    view: &View,
+    source: &mut u32,
+    into: &mut DiffColumns<'_>,
+    count: &mut u64,
+) -> u32
+    ensures struct_same { AreTheDiffColumns into.old into.new }
+    ensures told { TellsDiff pair.now view.now source.old into.old source.new into.new count.new result }
+{
+    let Some(filter) = filter_of(pair.later(), view) else {
+        return NO_KIND;
+    };
+    diff_code(write_differences(
+        alloc,
+        pair,
+        &filter,
+        source,
+        into.states,
+        into.kinds,
+        into.sources,
+        into.targets,
+        into.weights_before,
+        into.firsts_before,
+        into.recents_before,
+        into.weights_after,
+        into.firsts_after,
+        into.recents_after,
+        count,
+    ))
+}
+
+/// What a call about differences is told by.
+fn diff_code(answer: Result<(), DiffError>) -> u32
+    ensures { result ≡ diffs.diff_code answer }
+{
+    match answer {
+        Ok(()) => OK,
+        Err(DiffError::BadLength) => BAD_LENGTH,
+        Err(DiffError::OutOfMemory) => MEMORY,
+    }
+}
