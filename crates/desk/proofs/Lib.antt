@@ -3,11 +3,9 @@ pub mod Filling
 pub mod Handing
 pub mod Made
 pub mod Moving
-pub mod OwnedHeld
-pub mod OwnedLaws
-pub mod OwnedMoves
 pub mod UsedBlocks
 pub mod Zeros
 pub mod Readied
 pub mod OpenedAnew
 pub mod Refused
+pub mod TwicePinned

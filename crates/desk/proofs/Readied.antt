@@ -1,8 +1,7 @@
 -- A batch that is ready, as one handed over.
 use Rattle.std.proofs.Common.{◌≡◌, ℕ, ◌+◌, ◌≤◌, List, length, refl, sym, ap, subst, ◌∙◌, count_by, vec_len}
-use Rattle.std.specs.Arc.{arc_value}
 use Rattle.graph_types.specs.declared.batches.NamedOp.{NamedOp}
-use Rattle.graph_version.specs.{declared.versions.Version.Version, Versions.VersionView}
+use Rattle.graph_version.specs.{Versions.VersionView}
 use Rattle.batch_apply.specs.{Planned.workers_for, declared.plans.Plan.Plan}
 use Rattle.block_reclamation.specs.{Status.is_retired, declared.status.BlockStatus.{BlockStatus, TheVariants.{Free, Granted}}}
 use Rattle.block_pool.specs.Pools.{marked, AreFree}

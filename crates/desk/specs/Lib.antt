@@ -5,9 +5,6 @@ pub mod Journals
 pub mod Kept
 pub mod Tables
 pub mod Openings
-pub mod Owned
-pub mod Machine
-pub mod OwnedReady
 pub mod Ready
 pub mod Refusals
 pub mod Told

@@ -227,8 +227,13 @@ impl Desk {
         self.begin_known(batch, &KnownEnds::Looked(&[]))
     }
 
-    /// As `begin`, where this is known of the ends of the batch's operations.
-    fn begin_known(
+    /// As `begin`, where this is known of the ends of the batch's operations: an end that is known isn't looked up.
+    ///
+    /// ```
+    /// let listing = NameList { sources, targets, names: 1_000 };
+    /// let begun = desk.begin_known(batch, &KnownEnds::Listed(listing));
+    /// ```
+    pub fn begin_known(
         self,
         batch: Arc<Batch>,
         known: &KnownEnds<'_>,
@@ -271,7 +276,7 @@ impl Desk {
         self.apply_known(batch, &KnownEnds::Looked(&[]))
     }
 
-    /// As `apply`, where this is known of the ends of the batch's operations: an end that is known isn't looked up.
+    /// As `apply`, where this is known of the ends of the batch's operations, as in `begin_known`.
     ///
     /// ```
     /// let listing = NameList { sources, targets, names: 1_000 };

@@ -3,8 +3,7 @@
 //!
 //! A batch is applied in two steps: [`Desk::begin`] plans it and makes the next version, with all the memory that its
 //! acceptance takes; [`Ready::finish`] accepts it, or [`Ready::cancel`] leaves the desk of before. Who has workers for it begins
-//! with [`Desk::begin_at_once`]. [`OwnedDesk`] is a desk for one owner, who holds versions by their
-//! numbers; its batches have the same two steps, by [`OwnedDesk::begin`] and [`OwnedReady`].
+//! with [`Desk::begin_at_once`].
 //!
 //! The store is STINGER's (Ediger, McColl, Riedy, Bader; IEEE HPEC 2012) with held versions as Aspen has them (Dhulipala,
 //! Blelloch, Shun; PLDI 2019).
@@ -18,13 +17,9 @@ mod entries;
 mod errors;
 mod journals;
 mod last;
-mod laws;
 mod moves;
-mod owned;
-mod owned_ready;
 mod ready;
 mod reopening;
-mod seats;
 mod told;
 mod told_numbers;
 mod zero;
@@ -32,10 +27,7 @@ mod zero;
 pub use copies::KeptCopy;
 pub use desks::{Collected, Desk, Stat};
 pub use entries::JournalEntry;
-pub use errors::{HoldError, OpenError, ReleaseError};
+pub use errors::OpenError;
 pub use graph_types::ApplyError;
-pub use laws::law_owned_desk;
-pub use owned::{Held, Hold, OwnedDesk};
-pub use owned_ready::OwnedReady;
 pub use ready::{Accepted, Ready};
 pub use zero::Zero;

@@ -7,6 +7,7 @@ ghost use Rattle.graph_types.specs.Coded.{graph_code};
 ghost use Rattle.graph_types.specs.Step.{outcomes};
 ghost use Rattle.graph_version.specs.Batches.{batch_value};
 ghost use Rattle.graph_version.specs.declared.versions.Version.{Version};
+ghost use Rattle.graph_version.specs.Differences.{DifferAt};
 ghost use Rattle.graph_version.specs.Versions.{VersionView, content};
 ghost use Rattle.batch_shards.specs.RowBlocks.{shared_numbers};
 ghost use Rattle.batch_apply.specs.Rewritten.{IsRewritten};
@@ -27,7 +28,7 @@ use crate::moves::{born_blocks, give_back_numbers, move_blocks};
 use batch_apply::{Plan, Rewritten};
 use block_pool::Grant;
 use edge_block::Block;
-use graph_types::{ApplyError, Batch, List, Outcome};
+use graph_types::{ApplyError, Batch, List, Outcome, VertexId};
 use graph_version::{RowTable, Version};
 use std::alloc::AllocError;
 use std::marker::Model;
@@ -285,6 +286,17 @@ impl Ready {
         ensures { arc_value {X = Version} result.now ≡ self.now.new.last }
     {
         &self.prepared.version
+    }
+
+    /// The sources at which the batch may have changed the rows: those of all other sources are the last version's.
+    ///
+    /// ```
+    /// let rewritten = ready.sources().len();
+    /// ```
+    pub fn sources(&self) -> &[VertexId]
+        ensures { DifferAt result.now self.now.old.last.rows self.now.new.last.rows }
+    {
+        self.prepared.sources.as_slice()
     }
 
     /// The next version was prepared for a desk of these parts.

@@ -29,7 +29,12 @@ impl Desk {
     /// batch is kept, and no block is retired or granted. It takes memory and time by blocks, 4 bytes each, and not by edges;
     /// where batches are kept, also for the content as plain lists. The error is `AllocError` if memory runs out; all is as it was
     /// then.
-    pub(crate) fn reopen(&mut self) -> Result<(), AllocError>
+    ///
+    /// ```
+    /// desk.reopen()?;
+    /// assert_eq!(rt; desk.last().number(), 0);
+    /// ```
+    pub fn reopen(&mut self) -> Result<(), AllocError>
         ensures zero { OnOk result (IsVersionZero (length self.old.pool) self.new.last) }
         ensures rebased { OnOk result (IsRebased self.old.last self.new.last) }
         ensures desk { OnOk result (self.new ≡ opened_desk (length self.old.pool) self.new.last) }
@@ -53,7 +58,12 @@ impl Desk {
 
     /// Opens the desk anew over a version 0 that was made apart, of as many blocks as the desk's. What the desk had is given up. It
     /// takes no memory.
-    pub(crate) fn reopen_with(&mut self, zero: Zero)
+    ///
+    /// ```
+    /// let zero = Zero::over(alloc, desk.blocks(), &other_version)?;
+    /// desk.reopen_with(zero);
+    /// ```
+    pub fn reopen_with(&mut self, zero: Zero)
         requires { OpensWith (length self.old.pool) zero }
         ensures { self.new ≡ opened_desk (length self.old.pool) (arc_value {X = Version} zero.version) }
     {

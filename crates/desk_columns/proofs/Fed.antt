@@ -3,7 +3,7 @@ use Rattle.std.proofs.Common.{◌≡◌, ℕ, zero, suc, ◌+◌, List, [], ◌�
 use Rattle.std.proofs.lemmas.List.{append-nil, flat_map_more}
 use Rattle.graph_types.specs.declared.{batches.NamedOp.NamedOp, refusals.ApplyError.ApplyError}
 use Rattle.graph_types.specs.declared.refusals.ApplyError.TheVariants.{BatchLimit, NamesFull, KindsFull, PoolEmpty, OutOfMemory as NoMemory}
-use Rattle.desk.specs.Owned.{OwnedView}
+use Rattle.owned_desk.specs.Owned.{OwnedView}
 use Rattle.batch_columns.specs.Dictionaries.{Insertions, in_order, insertion_at, insertions_from, joined_operations}
 use Rattle.batch_columns.proofs.OneMore.{joined_parts}
 use Rattle.desk_counts.specs.{declared.counts.Counts.Counts, Counted.none_counted}

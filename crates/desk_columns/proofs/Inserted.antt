@@ -5,7 +5,8 @@ use Rattle.std.specs.List.{list_any}
 use Rattle.std.specs.Prelude.{Result, Ok, Err, IfOk}
 use Rattle.graph_types.specs.{Limits.operation_limit, Step.is_expire, declared.batches.NamedOp.{NamedOp, TheVariants.Insert}}
 use Rattle.block_reclamation.specs.Status.{is_free}
-use Rattle.desk.specs.{Owned.OwnedView, Refusals.{Refuses, asked, block_count}}
+use Rattle.desk.specs.Refusals.{Refuses, asked, block_count}
+use Rattle.owned_desk.specs.Owned.{OwnedView}
 use Rattle.graph_types.specs.declared.refusals.ApplyError.{ApplyError}
 use Rattle.desk.specs.declared.ready.Accepted.{Accepted}
 use Rattle.graph_types.specs.declared.refusals.ApplyError.TheVariants.{BatchLimit, NamesFull, KindsFull, PoolEmpty, OutOfMemory as ApplyOutOfMemory}

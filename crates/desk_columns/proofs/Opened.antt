@@ -3,7 +3,7 @@ use Rattle.std.proofs.Common.{◌≡◌, ◌+◌, ◌∙◌, ℕ, length, ap, sy
 use Rattle.graph_types.specs.Limits.{LimitsView}
 use Rattle.graph_version.specs.Versions.{VersionView, content}
 use Rattle.store_steps.specs.Opening.{IsVersionZero, opened_desk}
-use Rattle.desk.specs.Owned.{OwnedView, opened_owned}
+use Rattle.owned_desk.specs.Owned.{OwnedView, opened_owned}
 use Rattle.batch_columns.specs.Operations.{OperationTable}
 use Rattle.opening_columns.specs.{Openings.{IsMadeOf, IsOpenedWith}, declared.making.Made.Made}
 use Rattle.desk_columns.specs.Opening.{IsOpenedBy}

@@ -8,7 +8,7 @@ use Rattle.graph_types.proofs.{LimitsKept.{limits_after, limits_after_all, limit
 use Rattle.graph_version.specs.Versions.{content}
 use Rattle.graph_version.proofs.{Empty.content_alone, Rebased.content_rebased}
 use Rattle.store_steps.proofs.AcceptedDesk.{batches_after, opening_after}
-use Rattle.desk.specs.Owned.{OwnedView}
+use Rattle.owned_desk.specs.Owned.{OwnedView}
 use Rattle.batch_columns.specs.Operations.{OperationTable}
 use Rattle.desk_columns.specs.Replay.{AppliesBatch, IsBaseOf, IsCutAt, Replayed, Tidies, TidiesOften}
 

@@ -4,7 +4,7 @@ use Rattle.std.proofs.Common.{if◌then◌else◌, nat_lt}
 use Rattle.std.proofs.lemmas.Bool.{eqb-true, Decides.nat_tests}
 use Rattle.graph_types.specs.{Step.left_by, declared.batches.NamedOp.NamedOp}
 use Rattle.graph_version.specs.Versions.{content}
-use Rattle.desk.specs.Owned.{OwnedView}
+use Rattle.owned_desk.specs.Owned.{OwnedView}
 use Rattle.desk_columns.specs.Replay.{IsOnce, Replayed, SentBatch, is_new_behind, new_batches, was_sent}
 use Rattle.desk_columns.proofs.Replayed.{replayed_content}
 

@@ -5,7 +5,8 @@ use Rattle.graph_version.specs.Versions.{content}
 use Rattle.block_reclamation.specs.{Status.is_free}
 use Rattle.store_steps.specs.{Boards.raised_board, Desks.IsCollected, Acceptances.Accepts}
 use Rattle.batch_apply.specs.{Listed.AreEndsListed, declared.listed.NameList.NameList}
-use Rattle.desk.specs.{Owned.{OwnedView, copied}, Refusals.{Refuses, IsWithin}, declared.ready.Accepted.Accepted}
+use Rattle.desk.specs.{Refusals.{Refuses, IsWithin}, declared.ready.Accepted.Accepted}
+use Rattle.owned_desk.specs.Owned.{OwnedView, copied}
 use Rattle.graph_types.specs.declared.refusals.ApplyError.{ApplyError}
 use Rattle.graph_types.specs.declared.refusals.ApplyError.TheVariants.{PoolEmpty, OutOfMemory as NoMemory}
 use Rattle.graph_types.specs.declared.batches.PushError.TheVariants.{OutOfMemory as MemoryRanOut}

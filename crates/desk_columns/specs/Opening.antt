@@ -3,7 +3,7 @@ use Rattle.std.specs.Prelude.{◌≡◌, ◌+◌, ◌<◌, ℕ, List, length, Re
 use Rattle.graph_types.specs.declared.batches.NamedOp.{NamedOp}
 use Rattle.graph_version.specs.Versions.{content}
 use Rattle.store_steps.specs.Opening.{IsVersionZero, opened_desk}
-use Rattle.desk.specs.Owned.{OwnedView, opened_owned}
+use Rattle.owned_desk.specs.Owned.{OwnedView, opened_owned}
 use Rattle.batch_columns.specs.Operations.{OperationTable}
 use Rattle.opening_columns.specs.{Numbers.AreTaken, Openings.{IsOpenedWith, RefusesColumns}}
 use Rattle.desk_columns.specs.declared.opening.OpenDeskError.{OpenDeskError, TheVariants.{NotEmpty, Refused}}

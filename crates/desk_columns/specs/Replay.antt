@@ -6,7 +6,7 @@ use Rattle.std.specs.{Prelude.{if◌then◌else◌, Result, flat_map}, List.list
 use Rattle.graph_types.specs.{Graph.unlimited, Step.{after_all, empty_graph_in, left_by}, declared.batches.NamedOp.NamedOp}
 use Rattle.graph_version.specs.{Rebased.IsRebased, Versions.content}
 use Rattle.store_steps.specs.Acceptances.{Accepts}
-use Rattle.desk.specs.Owned.{OwnedView}
+use Rattle.owned_desk.specs.Owned.{OwnedView}
 use Rattle.batch_columns.specs.{Dictionaries.{Insertions, insertions_from}, Operations.OperationTable}
 use Rattle.desk_counts.specs.declared.counts.Counts.{Counts}
 use Rattle.desk_columns.specs.{Feeding.{Collects, Feeds}, Opening.IsOpenedBy, declared.columns.InsertColumnsError.InsertColumnsError}

@@ -13,9 +13,10 @@ ghost use Rattle.desk_columns.specs.Feeding.{IsTried, RefusesBatch, RefusesNext,
 
 use batch_apply::{KnownEnds, NameList};
 use batch_columns::{InsertError, insert_numbers};
-use desk::{Accepted, ApplyError, OwnedDesk};
+use desk::{Accepted, ApplyError};
 use desk_counts::Counts;
 use graph_types::{Batch, MOST_OPERATIONS, OPERATION_LIMIT, PushError};
+use owned_desk::OwnedDesk;
 use std::alloc::{AllocError, Global};
 use std::sync::Arc;
 use thiserror::Error;

@@ -4,8 +4,9 @@ ghost use Rattle.batch_columns.specs.Operations.{table_of};
 ghost use Rattle.desk_columns.specs.Opening.{OpensColumns};
 
 use batch_columns::Operations;
-use desk::{OwnedDesk, Zero};
+use desk::Zero;
 use opening_columns::{Made, OpenColumnsError, made_of};
+use owned_desk::OwnedDesk;
 use std::alloc::Global;
 use thiserror::Error;
 

@@ -3,7 +3,7 @@ use Rattle.std.specs.Prelude.{◌≡◌, ◌⊎◌, ◌≤◌, ◌==◌, MatchBo
 use Rattle.graph_types.specs.{Limits.most_operations, declared.batches.NamedOp.NamedOp}
 use Rattle.batch_columns.specs.declared.operations.OperationsError.{OperationsError}
 use Rattle.batch_columns.specs.{Dictionaries.Insertions, Operations.{OperationTable, IsExtended, RefusesOperations}}
-use Rattle.desk.specs.Owned.{OwnedView}
+use Rattle.owned_desk.specs.Owned.{OwnedView}
 use Rattle.desk_columns.specs.{Feeding.Feeds, Opening.OpensColumns}
 use Rattle.desk_columns.specs.declared.columns.InsertColumnsError.{InsertColumnsError}
 use Rattle.desk_columns.specs.declared.columns.InsertColumnsError.TheVariants as columns

@@ -4,10 +4,11 @@ use Rattle.graph_types.specs.{Step.outcomes, declared.batches.NamedOp.NamedOp}
 use Rattle.graph_version.specs.{Versions.{content}, Kept.edge_total, Rebased.IsRebased}
 use Rattle.block_reclamation.specs.Status.{is_free, is_retired, is_in_use, is_reclaimable}
 use Rattle.store_steps.specs.{Desks.DeskView, Opening.{IsVersionZero, opened_desk}, Acceptances.Accepts}
-use Rattle.desk.specs.{Refusals.{Refuses, IsWithin}, declared.{errors.HoldError.TheVariants.NoSeat, owned.Hold.Hold}}
+use Rattle.desk.specs.Refusals.{Refuses, IsWithin}
+use Rattle.owned_desk.specs.declared.{errors.HoldError.TheVariants.NoSeat, owned.Hold.Hold}
 use Rattle.graph_types.specs.declared.refusals.ApplyError.{ApplyError}
 use Rattle.graph_types.specs.declared.refusals.ApplyError.TheVariants as refused
-use Rattle.desk.specs.Owned.{OwnedView, opened_owned, HoldsOnce, RefusesHold, IsReleased, RefusesRelease, copied}
+use Rattle.owned_desk.specs.Owned.{OwnedView, opened_owned, HoldsOnce, RefusesHold, IsReleased, RefusesRelease, copied}
 use Rattle.desk_columns.specs.Feeding.{Collects}
 use Rattle.desk_counts.specs.{Counted.{with_outcomes, none_counted}, declared.counts.Counts.Counts}
 use Rattle.store_handles.specs.declared.held.Held.{Held}

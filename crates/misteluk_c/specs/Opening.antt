@@ -4,7 +4,7 @@ use Rattle.graph_types.specs.Limits.{LimitsView, AreLimits, standard_limits, sta
 use Rattle.graph_version.specs.Versions.{content, empty_version_in}
 use Rattle.block_reclamation.specs.Status.{most_blocks}
 use Rattle.store_steps.specs.{Desks.DeskView, Opening.opened_desk}
-use Rattle.desk.specs.Owned.{opened_owned}
+use Rattle.owned_desk.specs.Owned.{opened_owned}
 use Rattle.store_handles.specs.declared.held.Held.{Held}
 use Rattle.misteluk_c.specs.declared.opening.DeskLimits.{DeskLimits}
 use Rattle.misteluk_c.specs.{Held.MakesHeld, Desks.{held_desk, identity_in}}

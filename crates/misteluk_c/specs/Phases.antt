@@ -4,7 +4,8 @@ use Rattle.graph_types.specs.{Step.outcomes, declared.batches.NamedOp.NamedOp, d
 use Rattle.graph_version.specs.Versions.{content}
 use Rattle.block_reclamation.specs.Status.{is_free}
 use Rattle.store_steps.specs.Acceptances.{Accepts}
-use Rattle.desk.specs.{Refusals.{Refuses, IsWithin}, Owned.OwnedView, OwnedReady.OwnedReadyView}
+use Rattle.desk.specs.Refusals.{Refuses, IsWithin}
+use Rattle.owned_desk.specs.{Owned.OwnedView, OwnedReady.OwnedReadyView}
 use Rattle.desk_counts.specs.{Counted.{with_outcomes, none_counted}, declared.counts.Counts.Counts}
 use Rattle.store_handles.specs.declared.held.Held.{Held}
 use Rattle.store_handles.specs.declared.held.Held.TheVariants as held

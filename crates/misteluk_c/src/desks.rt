@@ -8,9 +8,10 @@ ghost use Rattle.misteluk_c.specs.Desks.{held_desk, identity_in, TellsApply, Tel
 use crate::codes::{
     BATCHES_FULL, BLOCKS_FULL, HELD_ALREADY, KINDS_FULL, MEMORY, NAMES_FULL, NO_HANDLE, NO_SEAT, OK,
 };
-use desk::{ApplyError, Desk, Hold, HoldError, OwnedDesk};
+use desk::{ApplyError, Desk};
 use desk_counts::Counts;
 use graph_types::Batch;
+use owned_desk::{Hold, HoldError, OwnedDesk};
 use std::alloc::Global;
 use std::mem::replace;
 use std::sync::Arc;

@@ -4,14 +4,15 @@ ghost use Rattle.std.specs.Prelude.{◌≡◌, ◌≤◌, Some, None, IsTrue};
 ghost use Rattle.graph_version.specs.Versions.{empty_version_in};
 ghost use Rattle.block_reclamation.specs.Status.{most_blocks};
 ghost use Rattle.store_steps.specs.Opening.{opened_desk};
-ghost use Rattle.desk.specs.Owned.{opened_owned};
+ghost use Rattle.owned_desk.specs.Owned.{opened_owned};
 ghost use Rattle.misteluk_c.specs.Held.{Asks, MakesHeld};
 ghost use Rattle.misteluk_c.specs.Desks.{held_desk, identity_in};
 ghost use Rattle.misteluk_c.specs.Opening.{Opens, OpensWithin, OpensGiven, limits_with, is_limits_size, weight_in, limits_told, TellsLimits};
 
 use crate::codes::{BAD_BLOCKS, BAD_LIMITS, BAD_SIZE, HELD_ALREADY, MEMORY, NO_HANDLE, OK};
-use desk::{Desk, OwnedDesk};
+use desk::Desk;
 use graph_types::{Limits, MOST_WEIGHT, STANDARD_SIZE};
+use owned_desk::OwnedDesk;
 use std::alloc::Global;
 use store_handles::{Handle, Held};
 

@@ -1,9 +1,9 @@
 //! What is held.
 
-use desk::{OwnedDesk, OwnedReady};
 use graph_types::Batch;
 use graph_version::Version;
 use graph_walks::Incoming;
+use owned_desk::{OwnedDesk, OwnedReady};
 use std::sync::Arc;
 use version_diff::VersionPair;
 

@@ -1,6 +1,4 @@
 use Rattle.std.proofs.Common.{refl, sym, subst, arith}
-use Rattle.std.specs.Arc.{arc_value}
-use Rattle.graph_version.specs.declared.versions.Version.{Version}
 use Rattle.desk.specs.{Ready.{IsGranted, old_of}, declared.desks.Parts.Parts}
 use Rattle.desk.proofs.{Handing.back_used, Collections.kept_same}
 use Rattle.desk.proofs.ready.cancelled.Goals as goal

@@ -1,7 +1,7 @@
 use Rattle.std.proofs.Common.{◌≤◌, ◌∙◌, List, length, refl, sym, ap, subst, count_by}
-use Rattle.std.specs.{Arc.arc_value, List.sum_by}
+use Rattle.std.specs.{List.sum_by}
 use Rattle.graph_types.specs.{Limits.most_operations, declared.batches.NamedOp.NamedOp}
-use Rattle.graph_version.specs.{Batches.batch_value, declared.versions.Version.Version}
+use Rattle.graph_version.specs.{Batches.batch_value}
 use Rattle.block_reclamation.specs.Status.{is_free, is_in_use}
 use Rattle.graph_types.proofs.Cases.{err_then}
 use Rattle.desk.specs.{Kept.desk_in, Refusals.{Refuses, RefusesGrant, asked}}

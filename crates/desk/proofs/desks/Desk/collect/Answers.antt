@@ -1,6 +1,5 @@
 use Rattle.std.proofs.Common.{◌≡◌, ℕ, ◌≤◌, length, sym, ap, subst, ◌∙◌, arith, count_by}
-use Rattle.std.{proofs.lemmas.Grind.common_steps, specs.Arc.arc_value}
-use Rattle.graph_version.specs.declared.versions.Version.{Version}
+use Rattle.std.{proofs.lemmas.Grind.common_steps}
 use Rattle.block_reclamation.specs.Status.{is_reclaimable, is_retired}
 use Rattle.store_steps.{specs.{Desks.{DeskView, IsCollected, births_in}, Steps.{SimulatesAt, recycling}}, proofs.Collecting.collection_simulates}
 use Rattle.store_steps.proofs.CollectedDesk.{recycled_and_left, is_collected, births_collected, desk_collected}

@@ -1,6 +1,5 @@
 use Rattle.std.proofs.Common.{◌≡◌, ◌+◌, ◌++◌, ◌∷◌, [], length, refl, sym, ap, subst, ◌∙◌, arith, count_by, vec_len}
-use Rattle.std.specs.Arc.{arc_value}
-use Rattle.graph_version.specs.{declared.versions.Version.Version, Versions.VersionView}
+use Rattle.graph_version.specs.{Versions.VersionView}
 use Rattle.graph_version.specs.Batches.{batch_value}
 use Rattle.block_pool.specs.Pools.{marked}
 use Rattle.store_steps.specs.Journal as kept

@@ -1,5 +1,3 @@
-use Rattle.std.{proofs.Common.{ap}, specs.Arc.arc_value}
-use Rattle.graph_version.specs.{declared.versions.Version.Version, Versions.VersionView}
 use Rattle.desk.proofs.Zeros.{opens_with}
 use Rattle.desk.proofs.zero.Zero.of.Goals as goal
 

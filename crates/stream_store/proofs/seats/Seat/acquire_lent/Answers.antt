@@ -1,6 +1,6 @@
 use Rattle.std.{proofs.Common.{◌≡◌, length, max, Some, true, refl, ap, ◌∙◌, rules}, specs.Prelude.option_map}
 use Rattle.block_reclamation.specs.{Board.with_pin, Copies.settled}
-use Rattle.desk.proofs.OwnedLaws.{pin_twice}
+use Rattle.desk.proofs.TwicePinned.{pin_twice}
 use Rattle.stream_store.proofs.seats.Seat.acquire_lent.Goals as goal
 
 pub returns-in-Ok-clause-pinned : goal.returns-in-Ok-clause-pinned

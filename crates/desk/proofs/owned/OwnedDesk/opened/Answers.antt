@@ -1,5 +1,0 @@
-use Rattle.desk.proofs.OwnedLaws.{opens_owned}
-use Rattle.desk.proofs.owned.OwnedDesk.opened.Goals as goal
-
-pub invariant_of-result : goal.invariant_of-result
-invariant_of-result c = opens_owned c.args.desk c.args.opening c.new.result c.new.ensures

@@ -1,0 +1,3 @@
+pub mod OwnedHeld
+pub mod OwnedLaws
+pub mod OwnedMoves

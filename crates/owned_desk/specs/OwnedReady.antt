@@ -1,0 +1,17 @@
+-- A batch that is ready at a desk with one owner.
+use Rattle.std.specs.Prelude.{List}
+use Rattle.graph_types.specs.declared.batches.NamedOp.{NamedOp}
+use Rattle.store_steps.specs.{Desks.DeskView, Acceptances.Accepts}
+use Rattle.owned_desk.specs.Owned.{OwnedView, IsOwned}
+
+-- the desk of before with what is held of it, the batch's operations, and the desk that has accepted them
+pub record OwnedReadyView : Type 0 where
+  pub old : OwnedView
+  pub ops : List NamedOp
+  pub new : DeskView
+
+-- what is held is counted, before and after, and the desk after has accepted the batch
+pub record IsOwnedReady (r : OwnedReadyView) : Type 0 where
+  pub before : IsOwned r.old
+  pub after : IsOwned (record r.old { desk = r.new })
+  pub accepted : Accepts r.old.desk r.ops r.new
