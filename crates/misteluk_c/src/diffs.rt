@@ -3,10 +3,15 @@
 ghost use Rattle.std.specs.Prelude.{◌≡◌, ◌==◌, ◌⊎◌, Some, None, MatchBool, false};
 ghost use Rattle.std.specs.Option.{option_copied};
 ghost use Rattle.misteluk_c.specs.Held.{Asks};
-ghost use Rattle.misteluk_c.specs.Diffs.{held_pair, diff_table_in, AreTheDiffColumns, TellsDiff};
+ghost use Rattle.misteluk_c.specs.Desks.{held_desk, identity_in, hold_of};
+ghost use Rattle.misteluk_c.specs.Diffs.{held_pair, diff_table_in, AreTheDiffColumns, TellsDiff, TellsPair, TellsMade};
 ghost use Rattle.misteluk_c.specs.Diffs as diffs;
 
-use crate::codes::{BAD_LENGTH, BAD_SIZE, MEMORY, NO_HANDLE, NO_KIND, OK};
+use crate::codes::{
+    BAD_LENGTH, BAD_NUMBER, BAD_SIZE, HELD_ALREADY, MEMORY, NO_HANDLE, NO_KIND, NO_SEAT, OK,
+};
+use crate::desks::HoldNumbers;
+use owned_desk::{Hold, OwnedDesk, PairError};
 use std::alloc::Global;
 use store_handles::{Handle, Held};
 use version_columns::{View, filter_of};
@@ -32,6 +37,85 @@ pub struct DiffColumns<'a> {
 
 /// How large that struct is.
 const DIFF_SIZE: usize = 168;
+
+/// Makes the pair of two versions that a desk holds.
+#[unsafe(no_mangle)]
+pub extern "C" fn misteluk_desk_diff(
+    alloc: Global,
+    desk: &mut Handle,
+    earlier: &HoldNumbers,
+    later: &HoldNumbers,
+    diff: &mut Handle,
+) -> u32
+    ensures same { desk.new.held ≡ desk.old.held }
+    ensures told { Asks (held_desk desk.old.held) result
+        (λ o. TellsPair (identity_in desk.old.held) o earlier.now later.now diff.old.held diff.new.held result) }
+    ensures none { held_desk desk.old.held ≡ None → diff.new.held ≡ diff.old.held }
+{
+    let Some(held) = desk.take(alloc) else {
+        return NO_HANDLE;
+    };
+    let code = pair_by(alloc, &held, earlier, later, diff);
+    desk.put(held);
+    code
+}
+
+fn pair_by(
+    alloc: Global,
+    held: &Held,
+    earlier: &HoldNumbers,
+    later: &HoldNumbers,
+    diff: &mut Handle,
+) -> u32
+    ensures told { Asks (held_desk (Some held.now)) result
+        (λ o. TellsPair (identity_in (Some held.now)) o earlier.now later.now diff.old.held diff.new.held result) }
+    ensures none { held_desk (Some held.now) ≡ None → diff.new.held ≡ diff.old.held }
+{
+    let Held::Desk { desk, identity } = held else {
+        return NO_HANDLE;
+    };
+    if !diff.is_empty() {
+        return HELD_ALREADY;
+    }
+    if earlier.desk != *identity || later.desk != *identity {
+        return NO_SEAT;
+    }
+    pair_in_empty(alloc, desk, hold_from(earlier), hold_from(later), diff)
+}
+
+/// The hold of these numbers.
+fn hold_from(numbers: &HoldNumbers) -> Hold
+    ensures { result ≡ hold_of numbers.now }
+{
+    Hold {
+        opening: numbers.opening,
+        number: numbers.number,
+    }
+}
+
+/// Makes the pair in a handle that holds nothing.
+fn pair_in_empty(
+    alloc: Global,
+    desk: &OwnedDesk,
+    earlier: Hold,
+    later: Hold,
+    diff: &mut Handle,
+) -> u32
+    requires { diff.old.held ≡ None }
+    ensures { TellsMade desk.now earlier later diff.new.held result }
+{
+    let pair = match desk.pair(earlier, later) {
+        Ok(pair) => pair,
+        Err(PairError::NotHeld) => return NO_SEAT,
+        Err(PairError::Backwards) => return BAD_NUMBER,
+        Err(PairError::OutOfMemory) => return MEMORY,
+    };
+    let Ok(boxed) = Box::new(alloc, Held::Pair(pair)) else {
+        return MEMORY;
+    };
+    diff.put(boxed);
+    OK
+}
 
 /// Ends what a handle holds, if it holds anything, and leaves it empty.
 #[unsafe(no_mangle)]

@@ -123,6 +123,9 @@ class ServedVersion:
     def edges(self, scope: Scope) -> Arrays:
         return Arrays(*self._columns("edges", scope))
 
+    def differences(self, later: Held, scope: Scope) -> None:
+        return None  # (by the edges of both)
+
     def out_of(self, scope: Scope, name: str) -> Arrays:
         found = Arrays(*self._columns("out_of", scope, name=name))
         return found.in_order(found.targets)  # (here, since the server answers others meanwhile)
