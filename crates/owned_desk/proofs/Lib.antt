@@ -1,3 +1,7 @@
+pub mod GrownNames
+pub mod HeldPairs
+pub mod KeptVersions
 pub mod OwnedHeld
 pub mod OwnedLaws
 pub mod OwnedMoves
+pub mod SinceNumbers

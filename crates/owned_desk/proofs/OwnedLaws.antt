@@ -10,7 +10,10 @@ use Rattle.graph_types.specs.declared.batches.NamedOp.{NamedOp}
 use Rattle.store_steps.specs.{Acceptances.Accepts, Desks.DeskView}
 use Rattle.store_steps.proofs.AcceptedDesk.{batches_after}
 use Rattle.owned_desk.specs.OwnedReady.{IsOwnedReady}
-use Rattle.owned_desk.specs.Owned.{OwnedView, IsOwned, IsHoldCounted, IsSeatFor, count_at, held_pin, opened_owned, with_hold}
+use Rattle.graph_version.specs.Versions.{VersionView}
+use Rattle.owned_desk.specs.Kept.{KeptView}
+use Rattle.owned_desk.specs.Owned.{OwnedView, IsOwned, IsHoldCounted, IsSeatFor, KeepsOwned, count_at, held_pin, opened_owned, owned_view, with_hold}
+use Rattle.owned_desk.proofs.KeptVersions.{none_kept}
 
 opened_is_owned : (d : DeskView) (n : ℕ) → IsOwned (opened_owned d n)
 opened_is_owned d n = record {
@@ -25,12 +28,14 @@ opened_is_owned d n = record {
       let none : pin_at (replicate SEATS None) a ≡ None = get_or-replicate SEATS a None None x in cc;
 }
 
--- and so it is with a board that was made
-pub opens_owned : (d : DeskView) (n : ℕ) (board : BoardState) → board ≡ no_pins
-    → IsOwned (record { desk = d; board = board; counts = replicate SEATS 0; opening = n })
-opens_owned d n board is =
-    subst (λ (b : BoardState). IsOwned (record { desk = d; board = b; counts = replicate SEATS 0; opening = n })) (sym is)
-    (opened_is_owned d n)
+-- and so it is with a board that was made, and with what is kept
+pub opens_owned : (d : DeskView) (n : ℕ) (board : BoardState) (kept : KeptView) → board ≡ no_pins
+    → kept ≡ record { versions = replicate SEATS None; touched = [] }
+    → KeepsOwned (owned_view d board (replicate SEATS 0) n kept) kept.touched
+opens_owned d n board kept is none =
+    subst (λ (b : BoardState). KeepsOwned (owned_view d b (replicate SEATS 0) n kept) kept.touched) (sym is)
+    (subst (λ (k : KeptView). KeepsOwned (owned_view d no_pins (replicate SEATS 0) n k) k.touched) (sym none)
+    (record { owned = opened_is_owned d n; kept = none_kept d.last [] }))
 
 -- One seat is changed
 
@@ -76,12 +81,12 @@ module _ (pins : List (Option Pin)) (seat : ℕ) (pin : Option Pin) (within : se
             (subst (IsHoldCounted last (pin_at pins s)) (sym counted) before))
       ] refl
 
--- with this pin and count at a seat all is owned still
-pub changed_owned : (o : OwnedView) (seat count : ℕ) (pin : Option Pin) → IsOwned o → seat < SEATS
+-- with this pin, count and version at a seat all is owned still
+pub changed_owned : (o : OwnedView) (seat count : ℕ) (pin : Option Pin) (version : Option VersionView) → IsOwned o → seat < SEATS
     → IsHoldCounted (length o.desk.last.batches) pin count
     → ((number b : ℕ) → pin ≡ Some (held_pin number) → b < SEATS → pin_at o.board.pins b ≡ Some (held_pin number) → b ≡ seat)
-    → IsOwned (with_hold o seat pin count)
-changed_owned o seat count pin is low here one =
+    → IsOwned (with_hold o seat pin count version)
+changed_owned o seat count pin version is low here one =
     let pins = is.pins in
     let seats = is.seats in
     record {
@@ -94,10 +99,10 @@ changed_owned o seat count pin is low here one =
     }
 
 -- a number is pinned at the seat for it
-pub pinned_owned : (o : OwnedView) (number seat count : ℕ) → IsOwned o → IsSeatFor o number seat
-    → number ≤ length o.desk.last.batches → 0 < count → IsOwned (with_hold o seat (Some (held_pin number)) count)
-pinned_owned o number seat count is for low some =
-    changed_owned o seat count (Some (held_pin number)) is for.0 (some, refl, low) (λ n b same within at.
+pub pinned_owned : (o : OwnedView) (number seat count : ℕ) (version : Option VersionView) → IsOwned o → IsSeatFor o number seat
+    → number ≤ length o.desk.last.batches → 0 < count → IsOwned (with_hold o seat (Some (held_pin number)) count version)
+pinned_owned o number seat count version is for low some =
+    changed_owned o seat count (Some (held_pin number)) version is for.0 (some, refl, low) (λ n b same within at.
     let at_number : pin_at o.board.pins b ≡ Some (held_pin number) = at ∙ sym same in
     elim for.1 as (λ _. b ≡ seat) [
       | inl x ↦ is.apart b seat number within for.0 at_number x
@@ -134,6 +139,16 @@ ready_owned o old new ops batch desk same is accepts =
     let accepted : Accepts old ops new =
     subst (λ b. Accepts old b new) (sym same) (subst (λ d. Accepts d batch new) (sym desk) accepts) in
     record { before = before; after = accepted_owned (record o { desk = old }) ops new before accepted; accepted = accepted }
+
+-- with other versions all is owned still
+pub owned_with : (o : OwnedView) (versions : List (Option VersionView)) → IsOwned o → IsOwned (record o { versions = versions })
+owned_with o versions is = record {
+  pins = is.pins;
+  seats = is.seats;
+  floor_low = is.floor_low;
+  counted = is.counted;
+  apart = is.apart;
+}
 
 -- The board
 

@@ -17,6 +17,8 @@ use Rattle.store_steps.proofs.{BoardSteps.{shows_floored, shows_sessions}, Quest
 use Rattle.store_steps.proofs.SessionRuns.{closing_done, opening_done}
 use Rattle.owned_desk.specs.declared.owned.Hold.{Hold}
 use Rattle.owned_desk.specs.Owned.{OwnedView, IsOwned, IsHoldCounted, IsReleased, HoldsOnce, ReleasesOnce, IsSeatOf}
+use Rattle.graph_version.specs.Versions.{VersionView}
+use Rattle.owned_desk.specs.Kept.{version_at}
 use Rattle.owned_desk.specs.Owned.{copied, count_at, held_pin, opened_owned, with_hold}
 use Rattle.owned_desk.specs.Machine.{Follows, FollowsBatch, FollowsHold, FollowsRelease, IsUnheld, ShowsOwned, collect_events}
 use Rattle.owned_desk.specs.Machine.{hold_events, release_events, seat_session}
@@ -112,9 +114,10 @@ found o w seat pin is shows low at =
     ∙ ap (option_map seat_session) (slice_get-get_or o.board.pins seat None within ∙ ap Some at))
 
 -- the world with that seat's session changed is shown
-seat_shown : (o : OwnedView) (w : World) (seat count : ℕ) (pin : Option SeatPin) → IsOwned o → seat_pin (seat_session pin) ≡ pin
-    → ShowsOwned o w → ShowsOwned (with_hold o seat pin count) (with_sessions w (set w.sessions seat (seat_session pin)))
-seat_shown o w seat count pin is same shows =
+seat_shown : (o : OwnedView) (w : World) (seat count : ℕ) (pin : Option SeatPin) (version : Option VersionView) → IsOwned o
+    → seat_pin (seat_session pin) ≡ pin → ShowsOwned o w
+    → ShowsOwned (with_hold o seat pin count version) (with_sessions w (set w.sessions seat (seat_session pin)))
+seat_shown o w seat count pin version is same shows =
     let next : World = with_sessions w (set w.sessions seat (seat_session pin)) in
     let sessions : next.sessions ≡ map seat_session (set o.board.pins seat pin) =
     ap (λ xs. set xs seat (seat_session pin)) shows.sessions ∙ sym (map-set seat_session o.board.pins seat pin) in
@@ -137,7 +140,7 @@ pub hold_follows : (old new : OwnedView) → IsOwned old → HoldsOnce old (leng
 hold_follows old new is h =
     let number : ℕ = length old.desk.last.batches in
     let pin : Option SeatPin = Some (held_pin number) in
-    let next : OwnedView = with_hold old h.seat pin (count_at old.counts h.seat + 1) in
+    let next : OwnedView = with_hold old h.seat pin (count_at old.counts h.seat + 1) (Some old.desk.last) in
     let events : List Event = hold_events h.seat (pin_at old.board.pins h.seat) in (
       h.seat,
       h.is_for,
@@ -152,7 +155,7 @@ hold_follows old new is h =
               opening_done w h.seat (found old w h.seat None is shows h.is_for.0 free.0)
                   ∙ ap (λ n. Some (with_sessions w (set w.sessions h.seat (Holding (record { pin = n; settled = true; version = n })))))
                   (same_count old.desk w shows.desk),
-              seat_shown old w h.seat (count_at old.counts h.seat + 1) pin is refl shows,
+              seat_shown old w h.seat (count_at old.counts h.seat + 1) pin (Some old.desk.last) is refl shows,
             ))
       ]),
     )
@@ -168,14 +171,15 @@ once_follows old new number is r =
       r.is_of,
       subst (λ (n : OwnedView). Follows old (release_events r.seat count) n) (sym r.new_is)
           (elim (count == 1) as (λ t. Follows old (if t then Release r.seat ∷ [] else [])
-          (with_hold old r.seat (if t then None else Some (held_pin number)) (count - 1))) [
+          (with_hold old r.seat (if t then None else Some (held_pin number)) (count - 1)
+          (if t then None else version_at old.versions r.seat))) [
             | true ↦ λ w shows. (
               with_sessions w (set w.sessions r.seat Idle),
               closing_done w r.seat hold (found old w r.seat (Some (held_pin number)) is shows r.is_of.0 r.is_of.1),
-              seat_shown old w r.seat (count - 1) None is refl shows,
+              seat_shown old w r.seat (count - 1) None None is refl shows,
             )
             | false ↦
-                nothing_follows old (with_hold old r.seat (Some (held_pin number)) (count - 1)) refl
+                nothing_follows old (with_hold old r.seat (Some (held_pin number)) (count - 1) (version_at old.versions r.seat)) refl
                 (own_again old.board r.seat (Some (held_pin number)) r.is_of.1)
           ]),
     )

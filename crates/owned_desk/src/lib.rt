@@ -8,12 +8,14 @@
 #![tactic(auto)]
 
 mod errors;
+mod kept;
 mod laws;
 mod owned;
 mod owned_ready;
 mod seats;
+mod touched;
 
-pub use errors::{HoldError, ReleaseError};
+pub use errors::{HoldError, PairError, ReleaseError};
 pub use laws::law_owned_desk;
 pub use owned::{Held, Hold, OwnedDesk};
 pub use owned_ready::OwnedReady;

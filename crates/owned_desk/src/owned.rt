@@ -1,6 +1,6 @@
 //! A desk with one owner, who holds versions by their numbers.
 
-ghost use Rattle.std.specs.Prelude.{◌≡◌, ℕ, ◌+◌, length, count_by, IfOk, IfErr, OnOk, OnErr, Some};
+ghost use Rattle.std.specs.Prelude.{◌≡◌, ℕ, ◌+◌, length, count_by, IfOk, IfErr, OnOk, OnErr, Some, List, Option, MatchOption};
 ghost use Rattle.std.specs.Arc.{arc_value};
 ghost use Rattle.graph_types.specs.Step.{outcomes};
 ghost use Rattle.graph_version.specs.Batches.{batch_value};
@@ -10,6 +10,7 @@ ghost use Rattle.graph_version.specs.Rebased.{IsRebased};
 ghost use Rattle.batch_apply.specs.Listed.{IsKnown};
 ghost use Rattle.block_reclamation.specs.Status.{is_free, is_retired, is_reclaimable};
 ghost use Rattle.block_reclamation.specs.Board.{IsLeast};
+ghost use Rattle.block_reclamation.specs.declared.copies.Pin.{Pin as SeatPin};
 ghost use Rattle.epoch_core.specs.Worlds.{World};
 ghost use Rattle.store_steps.specs.Boards.{raised_board};
 ghost use Rattle.store_steps.specs.Desks.{IsCollected, births_in};
@@ -17,24 +18,28 @@ ghost use Rattle.store_steps.specs.Opening.{IsVersionZero, opened_desk};
 ghost use Rattle.store_steps.specs.Acceptances.{Accepts};
 ghost use Rattle.store_steps.specs.Shown.{ShowsWorld};
 ghost use Rattle.store_steps.specs.Steps.{SimulatesAt, recycling};
-ghost use Rattle.owned_desk.specs.Owned.{IsOwned, opened_owned, HoldsOnce, RefusesHold, IsReleased, RefusesRelease, copied};
+ghost use Rattle.owned_desk.specs.Kept.{KeepsVersions};
+ghost use Rattle.owned_desk.specs.Owned.{HoldsNothing, HoldsVersion, IsPairOf, KeepsOwned, RefusesPair, opened_owned, owned_view, HoldsOnce, RefusesHold, IsReleased, RefusesRelease, copied};
 ghost use Rattle.owned_desk.specs.Owned.{IsSeatFor, IsSeatOf, ReleasesOnce, count_at, held_pin, with_hold};
 ghost use Rattle.desk.specs.Openings.{OpensWith};
 ghost use Rattle.owned_desk.specs.Machine.{Follows, FollowsBatch, FollowsHold, FollowsRelease, HeldAreSnapshots, LeavesHeldBlocks};
 ghost use Rattle.owned_desk.specs.Machine.{IsNumbered, IsUnheld, ShowsMachineStart, ShowsOwned, collect_events};
 ghost use Rattle.desk.specs.Refusals.{Refuses, IsWithin};
 
-use crate::errors::{HoldError, ReleaseError};
+use crate::errors::{HoldError, PairError, ReleaseError};
+use crate::kept::Kept;
 use crate::owned_ready::OwnedReady;
 use crate::seats::seat_with;
 use batch_apply::KnownEnds;
 use block_reclamation::{Board, Pin, SEATS, SeatNo};
-use desk::{Accepted, Collected, Desk, Zero};
+use core::mem::replace_with;
+use desk::{Accepted, Collected, Desk, Ready, Zero};
 use graph_types::{ApplyError, Batch};
 use graph_version::Version;
 use std::alloc::AllocError;
 use std::marker::Model;
 use std::sync::Arc;
+use version_diff::VersionPair;
 
 /// A desk, a board of pins, and how often each number of a version is held: 16 numbers at most, each as often as one likes. A
 /// collection keeps the blocks of the versions held.
@@ -53,6 +58,8 @@ pub struct OwnedDesk {
     counts: [u64; SEATS],
     /// How often the desk was opened anew.
     opening: u64,
+    /// The version of each seat's number, and what batches touched since.
+    kept: Kept,
 }
 
 // Written by hand: who lets one go rests on this function, and not on how each part is let go.
@@ -63,6 +70,7 @@ impl Drop for OwnedDesk {
             board: _board,
             counts: _counts,
             opening: _opening,
+            kept: _kept,
         } = self;
     }
 }
@@ -70,15 +78,15 @@ impl Drop for OwnedDesk {
 impl Model for OwnedDesk {
     ghost use Rattle.std.specs.Coded.{codes};
     ghost use Rattle.graph_types.specs.Coded.{graph_code};
-    ghost use Rattle.owned_desk.specs.Owned.{OwnedView, IsOwned};
+    ghost use Rattle.owned_desk.specs.Owned.{OwnedView, KeepsOwned, owned_view};
 
     ghost Value = { OwnedView };
 
     ghost coded = { Prim.hlevel (codes, graph_code) };
 
-    ghost view = { λ o. record { desk = o.desk; board = o.board; counts = o.counts; opening = o.opening } };
+    ghost view = { λ o. owned_view o.desk o.board o.counts o.opening o.kept };
 
-    ghost invariant = { λ o. IsOwned (record { desk = o.desk; board = o.board; counts = o.counts; opening = o.opening }) };
+    ghost invariant = { λ o. KeepsOwned (owned_view o.desk o.board o.counts o.opening o.kept) o.kept.touched };
 }
 
 /// Which version is held, for its release: its number, and in which opening of the desk.
@@ -108,11 +116,13 @@ impl OwnedDesk {
     fn opened(desk: Desk, opening: u64) -> OwnedDesk
         ensures { result ≡ opened_owned desk opening }
     {
+        let kept = Kept::none(desk.allocator());
         OwnedDesk {
             desk,
             board: Board::new(),
             counts: [0; SEATS],
             opening,
+            kept,
         }
     }
 
@@ -162,7 +172,32 @@ impl OwnedDesk {
         ensures snapshots { HeldAreSnapshots self.new }
         ensures unchanged { OnErr result (self.new ≡ self.old) }
     {
-        self.desk.apply_known(batch, known)
+        replace_with(self, (batch, known), OwnedDesk::applied)
+    }
+
+    /// As `apply_known`, by value.
+    fn applied(
+        self,
+        given: (Arc<Batch>, &KnownEnds<'_>),
+    ) -> (OwnedDesk, Result<Accepted, ApplyError>)
+        requires known { IsKnown (content self.desk.last).names (batch_value given.0) given.1.now }
+        ensures accepted { OnOk result.1 (Accepts self.desk (batch_value given.entry.0) result.0.desk) }
+        ensures number { IfOk result.1 (λ a. a.number ≡ length result.0.desk.last.batches) }
+        ensures outcomes { IfOk result.1 (λ a. a.outcomes ≡ outcomes (batch_value given.entry.0) (content self.desk.last)) }
+        ensures within { OnOk result.1 (IsWithin self.desk.last (count_by is_free self.desk.pool) (batch_value given.entry.0)) }
+        ensures refused { IfErr result.1 (Refuses self.desk.last (count_by is_free self.desk.pool) (batch_value given.entry.0)) }
+        ensures held { result.0 ≡ record self { desk = result.0.desk } }
+        ensures follows { OnOk result.1 (FollowsBatch self (batch_value given.entry.0) result.0) }
+        ensures unchanged { OnErr result.1 (result.0 ≡ self) }
+    {
+        let (batch, known) = given;
+        match self.begin_known(batch, known) {
+            Ok(ready) => {
+                let (desk, accepted) = ready.finish();
+                (desk, Ok(accepted))
+            }
+            Err((desk, error)) => (desk, Err(error)),
+        }
     }
 
     /// Makes a batch ready, by the caller alone; or refuses it, and gives the desk back as it was, as [`Desk::begin`] does.
@@ -180,28 +215,61 @@ impl OwnedDesk {
         ensures refused { IfErr result (λ e. Refuses self.desk.last (count_by is_free self.desk.pool) (batch_value batch) e.1) }
         ensures unchanged { IfErr result (λ e. e.0 ≡ self) }
     {
+        self.begin_known(batch, &KnownEnds::Looked(&[]))
+    }
+
+    /// As `begin`, where this is known of the ends of the batch's operations.
+    fn begin_known(
+        self,
+        batch: Arc<Batch>,
+        known: &KnownEnds<'_>,
+    ) -> Result<OwnedReady, (OwnedDesk, ApplyError)>
+        requires known { IsKnown (content self.desk.last).names (batch_value batch) known.now }
+        ensures begun { IfOk result (λ r. (r.old ≡ self) × (r.ops ≡ batch_value batch)) }
+        ensures accepts { IfOk result (λ r. Accepts self.desk (batch_value batch) r.new) }
+        ensures within { OnOk result (IsWithin self.desk.last (count_by is_free self.desk.pool) (batch_value batch)) }
+        ensures refused { IfErr result (λ e. Refuses self.desk.last (count_by is_free self.desk.pool) (batch_value batch) e.1) }
+        ensures unchanged { IfErr result (λ e. e.0 ≡ self) }
+    {
         let OwnedDesk {
             desk,
             board,
             counts,
             opening,
+            mut kept,
         } = self;
-        match desk.begin(batch) {
-            Ok(ready) => Ok(OwnedReady::of(ready, board, counts, opening)),
-            Err((desk, error)) => Err((OwnedDesk::with(desk, board, counts, opening), error)),
+        let ready = match desk.begin_known(batch, known) {
+            Ok(ready) => ready,
+            Err((desk, error)) => {
+                return Err((OwnedDesk::with(desk, board, counts, opening, kept), error));
+            }
+        };
+        match touch_sources(&mut kept, &ready) {
+            Ok(()) => Ok(OwnedReady::of(ready, board, counts, opening, kept)),
+            Err(_refused) => {
+                let desk = OwnedDesk::with(ready.cancel(), board, counts, opening, kept);
+                Err((desk, ApplyError::OutOfMemory))
+            }
         }
     }
 
     /// The desk of an owner, with what is held.
-    pub(crate) fn with(desk: Desk, board: Board, counts: [u64; SEATS], opening: u64) -> OwnedDesk
-        requires { IsOwned (record { desk = desk; board = board; counts = counts; opening = opening }) }
-        ensures { result ≡ record { desk = desk; board = board; counts = counts; opening = opening } }
+    pub(crate) fn with(
+        desk: Desk,
+        board: Board,
+        counts: [u64; SEATS],
+        opening: u64,
+        kept: Kept,
+    ) -> OwnedDesk
+        requires { KeepsOwned (owned_view desk board counts opening kept) kept.touched }
+        ensures { result ≡ owned_view desk board counts opening kept }
     {
         OwnedDesk {
             desk,
             board,
             counts,
             opening,
+            kept,
         }
     }
 
@@ -260,10 +328,13 @@ impl OwnedDesk {
         let Some(more) = count.checked_add(1) else {
             return Err(HoldError::OutOfMemory);
         };
-        let Ok(version) = Arc::try_clone(self.desk.last()) else {
+        let (Ok(version), Ok(kept)) = (
+            Arc::try_clone(self.desk.last()),
+            Arc::try_clone(self.desk.last()),
+        ) else {
             return Err(HoldError::OutOfMemory);
         };
-        self.pin(seat, number, more);
+        self.pin(seat, more, kept);
         Ok(Held {
             version,
             hold: Hold {
@@ -294,6 +365,47 @@ impl OwnedDesk {
         Ok(())
     }
 
+    /// The versions of two holds, the second of which has no smaller number, with the sources at which their rows may differ: those
+    /// that batches after the first one touched. It takes 4 bytes for each such source, and time by the vertices, 4 bytes each.
+    ///
+    /// `NotHeld` where one of the versions isn't held, `Backwards` where the first has the greater number, and `OutOfMemory`.
+    ///
+    /// ```
+    /// let before = desk.hold()?.hold;
+    /// desk.apply(batch)?;
+    /// let pair = desk.pair(before, desk.hold()?.hold)?;
+    /// assert!(rt; pair.earlier().number() < pair.later().number());
+    /// ```
+    pub fn pair(&self, first: Hold, second: Hold) -> Result<VersionPair, PairError>
+        ensures pair { IfOk result (IsPairOf self.now first second) }
+        ensures refused { IfErr result (RefusesPair self.now first second) }
+    {
+        let Some(earlier) = self.version_of(first) else {
+            return Err(PairError::NotHeld);
+        };
+        let Some(later) = self.version_of(second) else {
+            return Err(PairError::NotHeld);
+        };
+        if second.number < first.number {
+            return Err(PairError::Backwards);
+        }
+        let sources = self.kept.since(self.desk.allocator(), first.number)?;
+        let (earlier, later) = (Arc::try_clone(earlier)?, Arc::try_clone(later)?);
+        Ok(VersionPair::of(earlier, later, sources))
+    }
+
+    /// The version of a hold, if it is held.
+    fn version_of(&self, hold: Hold) -> Option<&Arc<Version>>
+        ensures { MatchOption result (HoldsNothing self.now hold)
+            (λ v. HoldsVersion self.now hold (arc_value {X = Version} v.now)) }
+    {
+        if hold.opening != self.opening {
+            return None;
+        }
+        let seat = seat_with(&self.board, Some(held_pin(hold.number)))?;
+        self.kept.version(seat)
+    }
+
     /// Opens the desk anew over what the last version holds, in the very blocks: version 0 begins with its content and is laid out
     /// as it, no batch is kept, and nothing is retired or held. Versions that were held answer on; the desk doesn't count their
     /// blocks any more, and a batch that uses such a block takes new memory for it. The error is `AllocError` if memory runs out,
@@ -313,15 +425,18 @@ impl OwnedDesk {
             return Err(AllocError);
         };
         self.desk.reopen()?;
+        let kept = Kept::none(self.desk.allocator());
         let OwnedDesk {
             board,
             counts,
             opening,
+            kept: held,
             ..
         } = self;
         *board = Board::new();
         *counts = [0; SEATS];
         *opening = next;
+        *held = kept;
         Ok(())
     }
 
@@ -344,15 +459,18 @@ impl OwnedDesk {
             return Err(AllocError);
         };
         self.desk.reopen_with(zero);
+        let kept = Kept::none(self.desk.allocator());
         let OwnedDesk {
             board,
             counts,
             opening,
+            kept: held,
             ..
         } = self;
         *board = Board::new();
         *counts = [0; SEATS];
         *opening = next;
+        *held = kept;
         Ok(())
     }
 
@@ -371,15 +489,18 @@ impl OwnedDesk {
     }
 
     /// Pins a seat at the last version's number, which is held so often then.
-    fn pin(&mut self, seat: SeatNo, number: u64, count: u64)
-        requires seat { IsSeatFor self.old number seat }
-        requires number { number ≡ length self.old.desk.last.batches }
+    fn pin(&mut self, seat: SeatNo, count: u64, last: Arc<Version>)
+        requires seat { IsSeatFor self.old (length self.old.desk.last.batches) seat }
         requires count { count ≡ count_at self.old.counts seat + 1 }
-        ensures { self.new ≡ with_hold self.old seat (Some (held_pin number)) count }
+        requires last { arc_value {X = Version} last ≡ self.old.desk.last }
+        ensures { self.new
+            ≡ with_hold self.old seat (Some (held_pin (length self.old.desk.last.batches))) count (Some self.old.desk.last) }
     {
+        let number = last.number();
         self.board.pin(seat);
         self.board.settle(seat, number);
         self.counts[usize::from(seat.number())] = count;
+        self.kept.put(seat, Some(last));
     }
 
     /// Counts a seat down, and takes its pin away at 0.
@@ -391,6 +512,7 @@ impl OwnedDesk {
         self.counts[at] -= 1;
         if self.counts[at] == 0 {
             self.board.unpin(seat);
+            self.kept.put(seat, None);
         }
     }
 }
@@ -403,4 +525,17 @@ fn held_pin(number: u64) -> Pin
         number,
         is_settled: true,
     }
+}
+
+/// Enters that the batch that is ready touches its sources, if something is held.
+fn touch_sources(kept: &mut Kept, ready: &Ready) -> Result<(), AllocError>
+    requires { Accepts ready.now.old ready.now.ops ready.now.new }
+    ensures versions { kept.new.versions ≡ kept.old.versions }
+    ensures before { (pins : List (Option SeatPin)) → KeepsVersions ready.now.old.last pins kept.old
+        → KeepsVersions ready.now.old.last pins kept.new }
+    ensures after { OnOk result ((pins : List (Option SeatPin)) → KeepsVersions ready.now.old.last pins kept.old
+        → KeepsVersions ready.now.new.last pins kept.new) }
+{
+    let number = ready.version().number();
+    kept.touch(ready.sources(), number as u32)
 }

@@ -7,8 +7,10 @@ ghost use Rattle.graph_version.specs.declared.versions.Version.{Version};
 ghost use Rattle.graph_version.specs.Versions.{content};
 ghost use Rattle.store_steps.specs.Acceptances.{Accepts};
 ghost use Rattle.owned_desk.specs.Machine.{FollowsBatch};
-ghost use Rattle.owned_desk.specs.OwnedReady.{IsOwnedReady};
+ghost use Rattle.owned_desk.specs.Owned.{owned_view};
+ghost use Rattle.owned_desk.specs.OwnedReady.{KeepsReady};
 
+use crate::kept::Kept;
 use crate::owned::OwnedDesk;
 use block_reclamation::{Board, SEATS};
 use desk::{Accepted, Ready};
@@ -28,6 +30,7 @@ pub struct OwnedReady {
     board: Board,
     counts: [u64; SEATS],
     opening: u64,
+    kept: Kept,
 }
 
 // Written by hand: who lets one go rests on this function, and not on how each part is let go.
@@ -38,6 +41,7 @@ impl Drop for OwnedReady {
             board: _board,
             counts: _counts,
             opening: _opening,
+            kept: _kept,
         } = self;
     }
 }
@@ -45,35 +49,42 @@ impl Drop for OwnedReady {
 impl Model for OwnedReady {
     ghost use Rattle.std.specs.Coded.{codes};
     ghost use Rattle.graph_types.specs.Coded.{graph_code};
-    ghost use Rattle.owned_desk.specs.OwnedReady.{OwnedReadyView, IsOwnedReady};
+    ghost use Rattle.owned_desk.specs.Owned.{owned_view};
+    ghost use Rattle.owned_desk.specs.OwnedReady.{OwnedReadyView, KeepsReady};
 
     ghost Value = { OwnedReadyView };
 
     ghost coded = { Prim.hlevel (codes, graph_code) };
 
     ghost view = { λ r. record {
-      old = record { desk = r.ready.old; board = r.board; counts = r.counts; opening = r.opening };
+      old = owned_view r.ready.old r.board r.counts r.opening r.kept;
       ops = r.ready.ops;
       new = r.ready.new;
     } };
 
-    ghost invariant = { λ r. IsOwnedReady (record {
-      old = record { desk = r.ready.old; board = r.board; counts = r.counts; opening = r.opening };
+    ghost invariant = { λ r. KeepsReady (record {
+      old = owned_view r.ready.old r.board r.counts r.opening r.kept;
       ops = r.ready.ops;
       new = r.ready.new;
-    }) };
+    }) r.kept.touched };
 }
 
 impl OwnedReady {
     /// A batch that is ready at the desk of an owner.
-    pub(crate) fn of(ready: Ready, board: Board, counts: [u64; SEATS], opening: u64) -> OwnedReady
-        requires owned { IsOwnedReady (record {
-          old = record { desk = ready.old; board = board; counts = counts; opening = opening };
+    pub(crate) fn of(
+        ready: Ready,
+        board: Board,
+        counts: [u64; SEATS],
+        opening: u64,
+        kept: Kept,
+    ) -> OwnedReady
+        requires { KeepsReady (record {
+          old = owned_view ready.old board counts opening kept;
           ops = ready.ops;
           new = ready.new;
-        }) }
+        }) kept.touched }
         ensures { result ≡ record {
-          old = record { desk = ready.old; board = board; counts = counts; opening = opening };
+          old = owned_view ready.old board counts opening kept;
           ops = ready.ops;
           new = ready.new;
         } }
@@ -83,6 +94,7 @@ impl OwnedReady {
             board,
             counts,
             opening,
+            kept,
         }
     }
 
@@ -99,9 +111,13 @@ impl OwnedReady {
             board,
             counts,
             opening,
+            kept,
         } = self;
         let (desk, accepted) = ready.finish();
-        (OwnedDesk::with(desk, board, counts, opening), accepted)
+        (
+            OwnedDesk::with(desk, board, counts, opening, kept),
+            accepted,
+        )
     }
 
     /// The batch is given up: the desk is the one of before, with all that is held. It takes no memory.
@@ -113,8 +129,9 @@ impl OwnedReady {
             board,
             counts,
             opening,
+            kept,
         } = self;
-        OwnedDesk::with(ready.cancel(), board, counts, opening)
+        OwnedDesk::with(ready.cancel(), board, counts, opening, kept)
     }
 
     /// The version that the batch leaves.

@@ -30,10 +30,11 @@ returns-clause-follows c =
       board = c.raise-copy.new.self;
       counts = c.self.inside.counts;
       opening = c.self.inside.opening;
+      versions = c.self.inside.kept.versions;
     } in
     let is : c.raise-copy.result ≡ copied old.desk old.board = search rules in
     let board : new.board ≡ raised_board (length old.desk.last.batches) old.board = search rules in
-    collect_follows old new (subst IsOwned c.self.view_is c.self.invariant) board
+    collect_follows old new (subst IsOwned c.self.view_is c.self.invariant.owned) board
     (subst (λ (copy : PinCopy). SimulatesAt copy old.desk (recycling copy old.desk.pool) c.collect.new.self) is
     (subst (λ (o : OwnedView). SimulatesAt c.raise-copy.result o.desk (recycling c.raise-copy.result o.desk.pool) c.collect.new.self)
     c.self.view_is c.collect.ensures.steps))
@@ -46,9 +47,10 @@ returns-clause-exact c =
       board = c.raise-copy.new.self;
       counts = c.self.inside.counts;
       opening = c.self.inside.opening;
+      versions = c.self.inside.kept.versions;
     } in
     let collected : IsCollected old.desk (copied old.desk old.board) new.desk = search rules in
-    leaves_held_blocks old new (subst IsOwned c.self.view_is c.self.invariant) collected
+    leaves_held_blocks old new (subst IsOwned c.self.view_is c.self.invariant.owned) collected
 
 pub returns-clause-snapshots : goal.returns-clause-snapshots
 returns-clause-snapshots c = held_are_snapshots (record {
@@ -56,4 +58,5 @@ returns-clause-snapshots c = held_are_snapshots (record {
   board = c.raise-copy.new.self;
   counts = c.self.inside.counts;
   opening = c.self.inside.opening;
+  versions = c.self.inside.kept.versions;
 })

@@ -24,5 +24,5 @@ returns-clause-follows c =
           (c.in-Some.ensures.1 ∙ ap (λ p. Some p) c.held_pin.ensures),
     ) in
     let opening : c.self.inside.opening ≡ old.opening = ap (λ (o : OwnedView). o.opening) c.self.view_is in
-    release_follows old c.unpin.new.self c.args.hold (subst IsOwned c.self.view_is c.self.invariant)
+    release_follows old c.unpin.new.self c.args.hold (subst IsOwned c.self.view_is c.self.invariant.owned)
     (inr (omega (arith, opening, c.if-hold-self.false, c.if-hold-self-2.false), c.unpin.ensures c.args.hold.number of))
