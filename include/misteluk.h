@@ -80,6 +80,11 @@ enum {
 #define MISTELUK_REMOVE 2
 #define MISTELUK_EXPIRE 3
 
+/* What became of an edge. */
+#define MISTELUK_GONE 0
+#define MISTELUK_NEW 1
+#define MISTELUK_CHANGED 2
+
 /* How many operations a batch has at the most, and how many where they are appended one by one. */
 #define MISTELUK_MOST_OPERATIONS 1048576
 #define MISTELUK_OPERATIONS 4096
@@ -90,6 +95,7 @@ enum {
 typedef struct { void *at; } misteluk_desk;
 typedef struct { void *at; } misteluk_batch;
 typedef struct { void *at; } misteluk_version;
+typedef struct { void *at; } misteluk_diff;
 
 /* How many vertices and kinds the graph of a desk may have, and how many batches the desk accepts until it is rebased. A desk
  * that is opened without limits of its own has 65,536, 64 and 65,536. Each limit is 1 or more, and none passes these walls:
@@ -154,6 +160,32 @@ typedef struct {
     uint64_t *recents;
     size_t recents_length;
 } misteluk_edge_columns;
+
+/* Columns of one length that what became of edges is written to: states, MISTELUK_GONE to MISTELUK_CHANGED, the edges' kinds and
+ * ends, and what they bore before and bear after. `size` is sizeof(misteluk_diff_columns), as of limits; no pointer is NULL. */
+typedef struct {
+    size_t size;
+    uint8_t *states;
+    size_t states_length;
+    uint32_t *kinds;
+    size_t kinds_length;
+    uint32_t *sources;
+    size_t sources_length;
+    uint32_t *targets;
+    size_t targets_length;
+    int64_t *weights_before;
+    size_t weights_before_length;
+    uint64_t *firsts_before;
+    size_t firsts_before_length;
+    uint64_t *recents_before;
+    size_t recents_before_length;
+    int64_t *weights_after;
+    size_t weights_after_length;
+    uint64_t *firsts_after;
+    size_t firsts_after_length;
+    uint64_t *recents_after;
+    size_t recents_after_length;
+} misteluk_diff_columns;
 
 /* What became of a batch's operations, each counted once but an expiry, which counts the edges that it took away. */
 typedef struct {
@@ -365,6 +397,25 @@ uint32_t misteluk_version_in_edges(misteluk_version *version, const misteluk_vie
  * vertices where all are. One that is past all vertices stays as it is, and nothing is written. BAD_SIZE, NO_HANDLE, NO_KIND,
  * BAD_LENGTH where the columns differ or not even the next row fits (then `count` tells how long it is). */
 uint32_t misteluk_version_edges(misteluk_version *version, const misteluk_view *view, uint32_t *source, misteluk_edge_columns *into,
+    uint64_t *count);
+
+/* What became of edges */
+
+/* Makes in `diff` the two versions of these holds, to ask what became of edges from the earlier one to the later one. It looks once
+ * at each vertex; misteluk_diff_edges then takes time by the sources that batches touched between the two. It holds both versions on
+ * its own: a release, or a free of their handles, takes nothing from it. NO_HANDLE, HELD_ALREADY, NO_SEAT where this desk holds
+ * either no more, or since before it opened anew, BAD_NUMBER where the earlier one has the greater number, MEMORY. */
+uint32_t misteluk_desk_diff(misteluk_desk *desk, const misteluk_hold *earlier, const misteluk_hold *later, misteluk_diff *diff);
+/* Lets both versions go, as a batch. */
+void misteluk_diff_free(misteluk_diff *diff);
+/* Writes what became of the edges that the view lets through, in each version by itself, of the sources from `*source` on, source by
+ * source, as many whole sources as the columns hold. Of each source first come the edges that are gone, in the order of the earlier
+ * row, and then those that are new, or changed in weight, first or recent time, in the order of the later one. Where an edge isn't
+ * there before, or after, 0 is written. `count` tells how many were written, and `*source` is the first source that isn't in: the
+ * number of vertices of the later version where all are. One that is past all vertices stays as it is, and nothing is written.
+ * BAD_SIZE, NO_HANDLE, NO_KIND where the later version has no such kind, BAD_LENGTH where the columns differ or not even what became
+ * of the next source's edges fits (then `count` tells how many they are), MEMORY. */
+uint32_t misteluk_diff_edges(misteluk_diff *diff, const misteluk_view *view, uint32_t *source, misteluk_diff_columns *into,
     uint64_t *count);
 
 #ifdef __cplusplus

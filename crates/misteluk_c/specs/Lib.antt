@@ -1,6 +1,7 @@
 pub mod Codes
 pub mod Held
 pub mod Desks
+pub mod Diffs
 pub mod Opening
 pub mod Phases
 pub mod Columns

@@ -10,6 +10,7 @@ mod batches;
 mod codes;
 mod column_opening;
 mod desks;
+mod diffs;
 mod held;
 mod inserting;
 mod opening;

@@ -5,6 +5,7 @@ use graph_version::Version;
 use graph_walks::Incoming;
 use owned_desk::{OwnedDesk, OwnedReady};
 use std::sync::Arc;
+use version_diff::VersionPair;
 
 /// What a handle may hold.
 #[derive(Drop)]
@@ -19,4 +20,6 @@ pub enum Held {
     Version(Arc<Version>),
     /// A version, with its edges in the order of their targets.
     Indexed(Arc<Incoming>),
+    /// Two versions, an earlier and a later one.
+    Pair(VersionPair),
 }

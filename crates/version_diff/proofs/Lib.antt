@@ -1,0 +1,5 @@
+pub mod Apart
+pub mod LeftOut
+pub mod Onward
+pub mod PassedOver
+pub mod Seen

@@ -4,6 +4,12 @@
 //! costs what may differ, and not what there is.
 #![tactic(auto)]
 
+mod columns;
+mod left;
 mod pairs;
+mod rows;
+mod sources;
 
+pub use columns::{DiffError, write_differences};
 pub use pairs::VersionPair;
+pub use rows::{CHANGED, EdgeDifference, EdgeMarks, GONE, NEW};

@@ -1,10 +1,10 @@
 //! Two versions of one graph.
 
-ghost use Rattle.std.specs.Prelude.{◌≡◌};
+ghost use Rattle.std.specs.Prelude.{◌≡◌, length};
 ghost use Rattle.std.specs.Arc.{arc_value};
 ghost use Rattle.graph_version.specs.declared.versions.Version.{Version};
-ghost use Rattle.graph_version.specs.Differences.{DifferAt};
-ghost use Rattle.version_diff.specs.Pairs.{PairView, IsNamedAfter, AreSourcesRising, version_pair};
+ghost use Rattle.graph_version.specs.{Differences.DifferAt, Versions.{IsVersion, content}};
+ghost use Rattle.version_diff.specs.Pairs.{IsNamedAfter, AreSourcesRising, ArePair, version_pair};
 
 use graph_types::VertexId;
 use graph_version::Version;
@@ -78,5 +78,22 @@ impl VersionPair {
         ensures named { IsNamedAfter self.now.earlier self.now.later }
     {
         &self.later
+    }
+
+    /// How many vertices the later version has: the earlier one has no more.
+    pub(crate) fn vertices(&self) -> u32
+        ensures { result ≡ length (content self.now.later).names }
+    {
+        self.later.names().len() as u32
+    }
+
+    /// The sources at which the rows may differ, rising.
+    pub(crate) fn sources(&self) -> &[VertexId]
+        ensures pair { ArePair self.now.earlier self.now.later result.now }
+        ensures version { IsVersion self.now.earlier }
+    {
+        // The version tells with its number what is true of each version.
+        let _number = self.earlier.number();
+        &self.sources
     }
 }

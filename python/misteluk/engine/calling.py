@@ -34,7 +34,7 @@ def opened(path: str) -> "Tuple[Library, Handles]":
     key = path, os.getpid()  # (a fork frees nothing of what its parent has)
     if key not in _OPENED:
         try:
-            _OPENED[key] = Library(path), Handles(Notes(), Notes(), Notes())
+            _OPENED[key] = Library(path), Handles(Notes(), Notes(), Notes(), Notes())
         except OSError as fault:
             # (the C library says of a file of another machine that it isn't there)
             is_other = "No such file" in str(fault) and os.path.isfile(path)
@@ -88,15 +88,18 @@ class Handles(NamedTuple):
     versions: Notes
     batches: Notes
     desks: Notes
+    diffs: Notes
 
     def give_back(self, library: Library) -> None:
-        versions, batches, desks = self
+        versions, batches, desks, diffs = self
         if versions.gone or versions.left:
             versions.give_back(library.version_free)
         if batches.gone or batches.left:
             batches.give_back(library.batch_free)
         if desks.gone or desks.left:
             desks.give_back(library.desk_free)
+        if diffs.gone or diffs.left:
+            diffs.give_back(library.diff_free)
 
 
 class Known(NamedTuple):

@@ -11,9 +11,10 @@ from typing import Any, Dict, List, NamedTuple, Optional, Protocol, Sequence, Tu
 from . import interface
 from .asked import Answers
 from .calling import Handles, Known, LibraryFlight, address, check, refusal_of, room, texts_of
-from .guard import Guard, Notes, Owned
+from .differences import read_differences
+from .guard import Guard, Note, Notes, Owned
 from .interface import Code, Library
-from .protocol import WHOLE, Arrays, Denied, Ends, Marks, Scope
+from .protocol import WHOLE, Arrays, Denied, Differences, Ends, Held, Marks, Scope
 from .walked import Walked
 from ..errors import NoSeat, SessionClosed
 from ..values.answers import Compacted
@@ -54,6 +55,8 @@ class Holder(Protocol):
     is_closed: bool
 
     def release(self, version: Any) -> None: ...
+
+    def pair(self, earlier: Any, later: Any) -> Optional[Owned]: ...
 
 
 def edge_columns(columns: Arrays, size: int) -> interface.EdgeColumns:
@@ -122,6 +125,11 @@ class LibraryVersion(Walked):
         check(self._library.version_clone(other._first.raw, self._first.raw))
         self._is_open, self._other, self.number, self.count = True, other, other.number, other.count
         self._edges, self._kind_count = other._edges, other._kind_count
+
+    @property
+    def hold(self) -> Note:
+        """What the desk knows it by: its own hold, or that of the one with which it is held."""
+        return self._hold if self._other is None else self._other.hold
 
     @property
     def is_open(self) -> bool:
@@ -304,6 +312,15 @@ class LibraryVersion(Walked):
         for it in found:
             del it[count.value:]
         return found
+
+    def differences(self, later: Held, scope: Scope) -> Optional[Differences]:
+        """What became of edges from here to a later version, where one desk holds both, else `None`."""
+        self._must_be_open()
+        if not isinstance(later, LibraryVersion) or later.desk is not self.desk:
+            return None
+        view = later._view(scope)
+        pair = self._engine.pair(self, later)
+        return None if pair is None else read_differences(self._library, pair, view, later.count)
 
     def out_of(self, scope: Scope, name: str) -> Arrays:
         kept = self.kept

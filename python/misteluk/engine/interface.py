@@ -19,6 +19,9 @@ INSERT = 0
 ADD = 1
 REMOVE = 2
 EXPIRE = 3
+GONE = 0
+NEW = 1
+CHANGED = 2
 MOST_OPERATIONS = 1048576
 OPERATIONS = 4096
 TEXT_BYTES = 80
@@ -62,6 +65,11 @@ class Batch(Structure):
 
 
 class Version(Structure):
+    _fields_ = [("at", c_void_p)]
+    at: Any
+
+
+class Diff(Structure):
     _fields_ = [("at", c_void_p)]
     at: Any
 
@@ -123,6 +131,37 @@ class EdgeColumns(Structure):
     firsts_length: int
     recents: Any
     recents_length: int
+
+
+class DiffColumns(Structure):
+    _fields_ = [("size", c_size_t), ("states", c_void_p), ("states_length", c_size_t), ("kinds", c_void_p),
+        ("kinds_length", c_size_t), ("sources", c_void_p), ("sources_length", c_size_t), ("targets", c_void_p),
+        ("targets_length", c_size_t), ("weights_before", c_void_p), ("weights_before_length", c_size_t),
+        ("firsts_before", c_void_p), ("firsts_before_length", c_size_t), ("recents_before", c_void_p),
+        ("recents_before_length", c_size_t), ("weights_after", c_void_p), ("weights_after_length", c_size_t),
+        ("firsts_after", c_void_p), ("firsts_after_length", c_size_t), ("recents_after", c_void_p),
+        ("recents_after_length", c_size_t)]
+    size: int
+    states: Any
+    states_length: int
+    kinds: Any
+    kinds_length: int
+    sources: Any
+    sources_length: int
+    targets: Any
+    targets_length: int
+    weights_before: Any
+    weights_before_length: int
+    firsts_before: Any
+    firsts_before_length: int
+    recents_before: Any
+    recents_before_length: int
+    weights_after: Any
+    weights_after_length: int
+    firsts_after: Any
+    firsts_after_length: int
+    recents_after: Any
+    recents_after_length: int
 
 
 class Counts(Structure):
@@ -232,6 +271,9 @@ FUNCTIONS: Dict[str, Tuple[Any, List[Any]]] = {
     "version_row": (c_uint32, [POINTER(Version), POINTER(View), c_uint32, POINTER(EdgeColumns), POINTER(c_uint64)]),
     "version_in_edges": (c_uint32, [POINTER(Version), POINTER(View), c_uint32, POINTER(EdgeColumns), POINTER(c_uint64)]),
     "version_edges": (c_uint32, [POINTER(Version), POINTER(View), POINTER(c_uint32), POINTER(EdgeColumns), POINTER(c_uint64)]),
+    "desk_diff": (c_uint32, [POINTER(Desk), POINTER(Hold), POINTER(Hold), POINTER(Diff)]),
+    "diff_free": (None, [POINTER(Diff)]),
+    "diff_edges": (c_uint32, [POINTER(Diff), POINTER(View), POINTER(c_uint32), POINTER(DiffColumns), POINTER(c_uint64)]),
 }
 
 
@@ -287,6 +329,9 @@ class Library:
     version_row: Callable[[Version, View, int, EdgeColumns, c_uint64], int]
     version_in_edges: Callable[[Version, View, int, EdgeColumns, c_uint64], int]
     version_edges: Callable[[Version, View, c_uint32, EdgeColumns, c_uint64], int]
+    desk_diff: Callable[[Desk, Hold, Hold, Diff], int]
+    diff_free: Callable[[Diff], None]
+    diff_edges: Callable[[Diff, View, c_uint32, DiffColumns, c_uint64], int]
 
     def __init__(self, path: str) -> None:
         """Opens the library at a path. OSError where there is none, where it lacks a function, or has another interface."""

@@ -273,6 +273,18 @@ class LibraryEngine(Desks):
         self._settle()
 
     @alone
+    def pair(self, earlier: LibraryVersion, later: LibraryVersion) -> Optional[Owned]:
+        """Two versions, to be asked what became of edges from one to the other; `None` where the desk doesn't hold both, or the
+        second one is the earlier, or a batch waits at the desk."""
+        opening = self._settle()
+        pair = Owned(interface.Diff(), self.handles.diffs)
+        code = self.library.desk_diff(opening.desk.raw, earlier.hold.raw, later.hold.raw, pair.raw)
+        if code in (Code.NO_HANDLE, Code.NO_SEAT, Code.BAD_NUMBER):
+            return None
+        check(code)
+        return pair
+
+    @alone
     def close_versions(self) -> None:
         """Closes all versions that are held."""
         self._close_versions(self._versions)

@@ -114,6 +114,19 @@ class Flight(Protocol):
     cut: List[None]
 
 
+class Differences(NamedTuple):
+    """Edges that are gone, new or changed: the state of each, and the edges as they were and as they are. Where an edge wasn't there,
+    or isn't, its weight and times are 0."""
+
+    states: "array[int]"
+    before: Arrays
+    after: Arrays
+
+    def of(self, state: int) -> List[int]:
+        """The places of those in a state."""
+        return [at for at, it in enumerate(self.states) if it == state]
+
+
 class Held(Protocol):
     """A version that is held, until it is closed. Each call raises `Denied` (NoKind, NoVertex) for names that it doesn't have,
     and `SessionClosed` once it is closed. It may be asked from several threads."""
@@ -162,6 +175,9 @@ class Held(Protocol):
 
     def edges(self, scope: Scope) -> Arrays:
         """All edges."""
+
+    def differences(self, later: "Held", scope: Scope) -> Optional[Differences]:
+        """What became of edges from here to a later version; `None` where it is found by the edges of both."""
 
     def out_of(self, scope: Scope, name: str) -> Arrays:
         """The edges that go out of a vertex, each kind's apart."""

@@ -13,7 +13,7 @@ from .limits import MOST_VALUES
 from .talk import Talk, part
 from ..engine.guard import Guard, alone
 from ..engine.operations import Operations
-from ..engine.protocol import NO_FEEDS, SERVED, Arrays, Denied, Ends, Marks, Scope
+from ..engine.protocol import NO_FEEDS, SERVED, Arrays, Denied, Ends, Held, Marks, Scope
 from ..errors import Busy, NoAnswer, NoServer, NotAllowed, Refused, SessionClosed, StoreError
 from ..options import _named
 from ..session import Session
@@ -122,6 +122,9 @@ class ServedVersion:
 
     def edges(self, scope: Scope) -> Arrays:
         return Arrays(*self._columns("edges", scope))
+
+    def differences(self, later: Held, scope: Scope) -> None:
+        return None  # (by the edges of both)
 
     def out_of(self, scope: Scope, name: str) -> Arrays:
         found = Arrays(*self._columns("out_of", scope, name=name))

@@ -62,6 +62,13 @@ class Diff(Generic[W, T]):
         self.gone, self.new = earlier.take(found.gone), later.take(found.new)
         self.before, self.after = earlier.take(found.before), later.take(found.after)
 
+    @classmethod
+    def _of(cls, gone: Edges[W, T], new: Edges[W, T], before: Edges[W, T], after: Edges[W, T]) -> Diff[W, T]:
+        """What was found already."""
+        found = cls.__new__(cls)
+        found.gone, found.new, found.before, found.after = gone, new, before, after
+        return found
+
     @property
     def changed(self) -> List[Changed[W, T]]:
         """The changed edges as a list of `Changed`.

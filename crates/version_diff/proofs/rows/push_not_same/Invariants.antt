@@ -1,0 +1,9 @@
+use Rattle.std.proofs.Common.{◌≡◌, ◌++◌, drop}
+use Rattle.graph_version.specs.Sharing.{block_values}
+use Rattle.version_diff.specs.Differences.{seen_in, not_same_among}
+use Rattle.version_diff.proofs.rows.push_not_same.Given as goal
+
+abbrev pub invariant-loop-block : goal.invariant-loop-block
+invariant-loop-block l =
+    l.differences.items ++ not_same_among l.source (seen_in l.view (block_values l.earlier)) (seen_in l.view (block_values (drop l.block-index l.later)))
+    ≡ l.fn.differences.items ++ not_same_among l.source (seen_in l.view (block_values l.earlier)) (seen_in l.view (block_values l.later))
