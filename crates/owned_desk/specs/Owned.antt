@@ -1,10 +1,11 @@
 -- A desk with one owner, who holds versions by their numbers: each number that is held has one seat, and a count.
 use Rattle.std.specs.Prelude.{◌≡◌, ◌≢◌, ◌⊎◌, ℕ, ◌+◌, ◌-◌, ◌<◌, ◌≤◌, List, length, Option, Some, None, replicate, [], slice_index_or, slice_set}
 use Rattle.std.specs.Prelude.{if◌then◌else◌, ◌==◌, true}
-use Rattle.block_reclamation.specs.declared.copies.{Pin.Pin, PinCopy.PinCopy, TheConstants.SEATS}
-use Rattle.block_reclamation.specs.{Board.{BoardState, no_pins, with_pin}, Copies.{pin_at, copy_of}}
+use Rattle.block_reclamation.specs.declared.copies.{Pin.Pin, TheConstants.SEATS}
+use Rattle.block_reclamation.specs.{Board.{BoardState, no_pins, with_pin}, Copies.pin_at}
 use Rattle.graph_version.specs.Versions.{VersionView}
 use Rattle.store_steps.specs.Desks.{DeskView}
+pub use Rattle.desk.specs.Copies.{copied}
 use Rattle.version_diff.specs.Pairs.{PairView}
 use Rattle.owned_desk.specs.Kept.{KeepsVersions, KeptView, version_at}
 use Rattle.owned_desk.specs.declared.{errors.HoldError.{HoldError, TheVariants.{NoSeat, OutOfMemory}}, owned.Hold.Hold}
@@ -101,10 +102,6 @@ IsReleased old hold new = ((hold.opening < old.opening) × (new ≡ old))
 abbrev pub RefusesRelease : OwnedView → Hold → Type 0
 RefusesRelease o hold = (o.opening < hold.opening)
     ⊎ ((hold.opening ≡ o.opening) × ((seat : ℕ) → IsSeatOf o hold.number seat → ⊥))
-
--- the copy of a desk's last number and the pins of a board
-abbrev pub copied : DeskView → BoardState → PinCopy
-copied desk board = copy_of (length desk.last.batches) board.pins
 
 -- Pairs
 

@@ -6,7 +6,7 @@ use Rattle.graph_types.specs.{Step.outcomes, Step.left_by, declared.batches.Name
 use Rattle.graph_version.specs.Versions.{VersionView, IsVersion}
 use Rattle.graph_types.specs.Refusals.{MeetsNeitherLimit}
 use Rattle.version_shelf.specs.Shelves.{ToldView}
-pub use Rattle.desk.specs.Owned.{copied}
+pub use Rattle.desk.specs.Copies.{copied}
 use Rattle.graph_types.specs.declared.refusals.ApplyError.{ApplyError}
 use Rattle.desk.specs.Refusals.{Refuses}
 use Rattle.stream_store.specs.Seats.{SeatView}
