@@ -6,7 +6,8 @@ import unittest
 from ctypes import c_uint32, c_uint64
 from typing import Any, Dict, List, Sequence, Tuple
 
-from calls import ANY_KIND, EVER, Batch, Code, Desk, at, column, fields, given, interface, limits, view, whole, written_to
+from calls import (ANY_KIND, EVER, Batch, Code, Desk, at, column, diff_columns, fields, given, interface, limits, view, whole,
+                   written_to)
 from places import library
 
 GUARD = 0x5A
@@ -75,6 +76,8 @@ class Hostile(unittest.TestCase):
             it.desk_limits(desk, limits(1, 1, 1)), it.desk_open_columns(desk, table, number),
             it.desk_insert_columns(desk, *name, *name, *[where, 1] * 5, counts, number),
             it.desk_hold(desk, none, interface.Hold()), it.desk_release(desk, interface.Hold()), it.desk_rebase(desk),
+            it.desk_diff(desk, interface.Hold(), interface.Hold(), interface.Diff()),
+            it.diff_edges(interface.Diff(), view(), few, diff_columns([one] * 10, 1), number),
             it.version_clone(none, interface.Version()), it.version_size(none, interface.Size()),
             it.version_vertex(none, *name, few), it.version_kind(none, *name, few),
             it.version_names(none, 0, where, 1, where, 1), it.version_kind_names(none, 0, where, 1, where, 1),
@@ -89,7 +92,7 @@ class Hostile(unittest.TestCase):
         self.assertEqual(codes, [Code.NO_HANDLE] * len(codes))
         self.assertEqual([desk.at, batch.at, none.at, number.value, few.value, *one, *fields(counts)], [None] * 3 + [0] * 18)
         # And these may be given: nothing is there to end.
-        it.batch_free(batch), it.desk_free(desk), it.version_free(none)
+        it.batch_free(batch), it.desk_free(desk), it.version_free(none), it.diff_free(interface.Diff())
         # A handle that is to be made holds something already, and holds it still.
         copy = self.held.clone()
         kept = [self.batch.handle.at, self.desk.handle.at, held.at, copy.handle.at]

@@ -35,8 +35,8 @@ def lines() -> Dict[str, int]:
 class Layout(unittest.TestCase):
     def test_structs_and_numbers_are_those_of_the_header(self) -> None:
         wanted = lines()
-        self.assertEqual(set(STRUCTS), {"desk", "batch", "version", "limits", "columns", "edge_columns", "counts", "stat", "size",
-                                        "hold", "edge", "view"})
+        self.assertEqual(set(STRUCTS), {"desk", "batch", "version", "diff", "limits", "columns", "edge_columns", "diff_columns",
+                                        "counts", "stat", "size", "hold", "edge", "view"})
         text: List[str] = ["#include <misteluk.h>", "#include <stdio.h>", "int main(void) {"]
         text += [f'    printf("%llu\\n", (unsigned long long)({it}));' for it in wanted]
         with tempfile.TemporaryDirectory() as folder:

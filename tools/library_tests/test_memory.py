@@ -110,6 +110,8 @@ CALLS: "dict[str, Callable[[State], object]]" = {
     "version_weights_in": lambda it: it.held.weights_in(view()),
     "version_row": lambda it: it.held.row(view(), 0),
     "version_edges": lambda it: it.held.edges(view(), 3),
+    "desk_diff": lambda it: differences(it, 1),
+    "diff_edges": lambda it: differences(it, 9),
     "version_names": lambda it: it.held.names(),
     "version_names_like": lambda it: it.held.names_like(b"b", 1),
     "version_vertex": lambda it: it.held.vertex(b"b"),
@@ -151,6 +153,15 @@ def release_one_of_two(state: State) -> object:
     second = state.desk.hold()
     state.desk.release(second)
     return fields(state.desk.stat())
+
+
+def differences(state: State, room: int) -> object:
+    """What became of edges from the version that is held to the last one, in columns of so many places."""
+    last = state.desk.hold()
+    try:
+        return state.desk.diff(state.held, last, view(), room)
+    finally:
+        state.desk.release(last)
 
 
 def append_alone(state: State) -> object:

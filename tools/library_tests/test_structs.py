@@ -7,7 +7,7 @@ import os
 import unittest
 from typing import Any, Tuple
 
-from calls import Batch, Code, Desk, columns, edge_columns, column, fields, interface, limits, view
+from calls import Batch, Code, Desk, columns, diff_columns, edge_columns, column, fields, interface, limits, view
 from places import library
 
 PAGE, WITHOUT_WEIGHT, MOST_WEIGHT = mmap.PAGESIZE, 24, 1 << 40
@@ -89,6 +89,10 @@ class Structs(unittest.TestCase):
                 self.assertEqual(it.version_row(interface.Version(), view(9), 9, into, count), Code.BAD_SIZE)
                 self.assertEqual(it.version_in_edges(interface.Version(), view(9), 9, into, count), Code.BAD_SIZE)
                 self.assertEqual(it.version_edges(interface.Version(), view(9), source, into, count), Code.BAD_SIZE)
+        differences = [column(kind, 1) for kind in "BIIIqQQqQQ"]
+        for size in (0, 8, 104, 167, 169, 1 << 63):
+            told = told_with(diff_columns(differences, 1), size)
+            self.assertEqual(it.diff_edges(interface.Diff(), view(9), source, told, count), Code.BAD_SIZE)
         self.assertEqual((len(self.batch), done.value, source.value, count.value), (0, 5, 6, 7))
         self.assertEqual([any(it) for it in rows], [False] * 6)
 
@@ -103,8 +107,9 @@ class Structs(unittest.TestCase):
                  call.misteluk_desk_open_columns(ctypes.byref(self.desk.handle), it, number),
                  call.misteluk_version_row(held, seen, 0, it, number),
                  call.misteluk_version_in_edges(held, seen, 0, it, number),
-                 call.misteluk_version_edges(held, seen, number, it, number)]
-        self.assertEqual(codes, [Code.BAD_SIZE] * 7)
+                 call.misteluk_version_edges(held, seen, number, it, number),
+                 call.misteluk_diff_edges(ctypes.byref(interface.Diff()), seen, number, it, number)]
+        self.assertEqual(codes, [Code.BAD_SIZE] * 8)
 
     def test_what_ends_a_handle_ends_it_once(self) -> None:
         desk, batch = Desk(library(), 16), Batch(library())

@@ -10,6 +10,7 @@ use crate::desks::{
     DeskStat, HoldNumbers, misteluk_desk_apply, misteluk_desk_collect, misteluk_desk_free,
     misteluk_desk_hold, misteluk_desk_rebase, misteluk_desk_release, misteluk_desk_stat,
 };
+use crate::diffs::{DiffColumns, misteluk_desk_diff, misteluk_diff_edges, misteluk_diff_free};
 use crate::inserting::misteluk_desk_insert_columns;
 use crate::opening::{
     DeskLimits, misteluk_desk_limits, misteluk_desk_new, misteluk_desk_new_within,
@@ -142,6 +143,7 @@ fn apply(alloc: Global, batch: &mut Handle, desk: &mut Handle, version: &mut Han
         misteluk_desk_collect(alloc, desk, &mut freed),
         misteluk_desk_stat(alloc, desk, &mut stat),
         misteluk_desk_hold(alloc, desk, version, &mut hold),
+        read_differences(alloc, desk, &hold),
         misteluk_desk_release(alloc, desk, &hold),
         misteluk_desk_rebase(alloc, desk),
         apply_in_phases(alloc, batch, desk, &mut counts),
@@ -283,6 +285,35 @@ const EMPTY: Columns = Columns {
     firsts: [0; 2],
     recents: [0; 2],
 };
+
+/// The code of what became of edges between two holds of a desk, which is asked in columns for two.
+fn read_differences(alloc: Global, desk: &mut Handle, hold: &HoldNumbers) -> u32 {
+    let mut room = EMPTY;
+    let mut after = EMPTY;
+    let mut states = [0_u8; 2];
+    let mut diff = Handle::empty(alloc);
+    let mut source = 0_u32;
+    let mut count = 0_u64;
+    let mut into = DiffColumns {
+        size: 168,
+        states: &mut states,
+        kinds: &mut room.kinds,
+        sources: &mut room.sources,
+        targets: &mut room.targets,
+        weights_before: &mut room.weights,
+        firsts_before: &mut room.firsts,
+        recents_before: &mut room.recents,
+        weights_after: &mut after.weights,
+        firsts_after: &mut after.firsts,
+        recents_after: &mut after.recents,
+    };
+    let codes = [
+        misteluk_desk_diff(alloc, desk, hold, hold, &mut diff),
+        misteluk_diff_edges(alloc, &mut diff, &EVERY, &mut source, &mut into, &mut count),
+    ];
+    misteluk_diff_free(alloc, &mut diff);
+    sum(&codes)
+}
 
 /// The codes of one source's edges, of all, and of those that lead to one vertex.
 fn read_edges(alloc: Global, version: &mut Handle) -> u32 {

@@ -1,0 +1,125 @@
+"""What became of edges between two versions that a desk holds, beside the edges of both."""
+import random
+import unittest
+from ctypes import c_uint32, c_uint64, sizeof
+from typing import Dict, List, Tuple
+
+from calls import ANY_KIND, EVER, Batch, Code, Desk, Version, column, diff_columns, interface, must, view
+from places import library
+
+GONE, NEW, CHANGED = interface.GONE, interface.NEW, interface.CHANGED
+Marks = Tuple[int, int, int]
+
+
+def by_source(version: Version, seen: interface.View) -> "Dict[int, Dict[Tuple[int, int], Marks]]":
+    """What edges bear, by their kinds and targets, of each source in the order of its row."""
+    found: Dict[int, Dict[Tuple[int, int], Marks]] = {}
+    for kind, source, target, *marks in version.edges(seen, 4_096):
+        found.setdefault(source, {})[kind, target] = (marks[0], marks[1], marks[2])
+    return found
+
+
+def plain(earlier: Version, later: Version, seen: interface.View) -> List[Tuple[int, ...]]:
+    """What became of edges, from those of both versions."""
+    before, after, nothing = by_source(earlier, seen), by_source(later, seen), (0, 0, 0)
+    found: List[Tuple[int, ...]] = []
+    for source in sorted({*before, *after}):
+        old, new = before.get(source, {}), after.get(source, {})
+        for (kind, target), marks in old.items():
+            if (kind, target) not in new:
+                found.append((GONE, kind, source, target, *marks, *nothing))
+        for (kind, target), marks in new.items():
+            if (kind, target) not in old:
+                found.append((NEW, kind, source, target, *nothing, *marks))
+            elif old[kind, target] != marks:
+                found.append((CHANGED, kind, source, target, *old[kind, target], *marks))
+    return found
+
+
+class Diffs(unittest.TestCase):
+    def setUp(self) -> None:
+        self.desk = Desk(library(), 4_096)
+        self.addCleanup(self.desk.free)
+
+    def change(self, made: random.Random, count: int) -> None:
+        """Edges of few sources to many targets, of which a source's edges fill several blocks; whole runs are removed."""
+        batch = Batch(library())
+        for _ in range(count):
+            kind, source, target = made.choice((b"k", b"l", b"m")), b"v%d" % made.randrange(4), made.randrange(150)
+            word, time = made.random(), made.randrange(60)
+            if word < 0.65:
+                batch.insert(kind, source, b"v%d" % target, made.randrange(4), time)
+            elif word < 0.98:
+                for it in range(target, target + made.choice((1, 1, 40))):
+                    batch.remove(kind, source, b"v%d" % it)
+            else:
+                batch.expire(made.randrange(20))
+        self.desk.apply(batch)
+        batch.free()
+
+    def test_at_random(self) -> None:
+        made = random.Random(31)
+        for _ in range(8):
+            held: List[Version] = []
+            for _ in range(8):
+                self.change(made, made.choice((1, 5, 100)))
+                held.append(self.desk.hold())
+            for _ in range(30):
+                first, last = sorted(made.choices(range(8), k=2))
+                begin, kinds = made.randrange(60), range(held[last].size.kinds)
+                window = made.choice((EVER, (begin, begin + made.randrange(60))))
+                seen = view(made.choice((None, *kinds)), window)
+                if seen.kind in (ANY_KIND, *range(held[first].size.kinds)):
+                    wanted = plain(held[first], held[last], seen)
+                else:  # (all are new: the earlier version has no such kind)
+                    wanted = [(NEW, *it[:3], 0, 0, 0, *it[3:]) for it in held[last].edges(seen, 4_096)]
+                self.assertEqual(self.desk.diff(held[first], held[last], seen, made.choice((1, 6, 500))), wanted)
+            for it in held:
+                self.desk.release(it)
+
+    def test_what_is_refused(self) -> None:
+        it, pair, made = library(), interface.Diff(), random.Random(2)
+        other = Desk(library(), 16)
+        self.addCleanup(other.free)
+        self.change(made, 30)
+        first, own = self.desk.hold(), other.hold()
+        self.change(made, 30)
+        last = self.desk.hold()
+        for earlier, later, code in ((last, first, Code.BAD_NUMBER), (first, own, Code.NO_SEAT), (own, last, Code.NO_SEAT)):
+            self.assertEqual(it.desk_diff(self.desk.handle, earlier.hold, later.hold, pair), code)
+            self.assertIsNone(pair.at)
+        must(it.desk_diff(self.desk.handle, first.hold, last.hold, pair))
+        self.assertEqual(it.desk_diff(self.desk.handle, first.hold, last.hold, pair), Code.HELD_ALREADY)
+        # What is let go meanwhile stays with the pair.
+        wanted = plain(first, last, view())
+        source, count, table = c_uint32(), c_uint64(), [column(it, 500) for it in "BIIIqQQqQQ"]
+        for it_ in (first, last):
+            self.desk.release(it_)
+        self.assertEqual(it.desk_diff(self.desk.handle, first.hold, last.hold, interface.Diff()), Code.NO_SEAT)
+        self.assertEqual(it.diff_edges(pair, view(9), source, diff_columns(table, 500), count), Code.NO_KIND)
+        uneven = diff_columns(table, 500)
+        uneven.recents_after_length = 499
+        self.assertEqual(it.diff_edges(pair, view(), source, uneven, count), Code.BAD_LENGTH)
+        self.assertEqual((source.value, any(map(any, table))), (0, False))
+        must(it.diff_edges(pair, view(), source, diff_columns(table, 500), count))
+        self.assertEqual(list(zip(*(it[:count.value] for it in table))), wanted)
+        must(it.diff_edges(pair, view(), source, diff_columns(table, 0), count))  # (none are left)
+        self.assertEqual((count.value, sizeof(interface.DiffColumns)), (0, 168))
+        it.diff_free(pair)
+        self.assertIsNone(pair.at)
+        self.assertEqual(it.diff_edges(pair, view(), source, diff_columns(table, 500), count), Code.NO_HANDLE)
+
+    def test_versions_of_a_former_opening(self) -> None:
+        self.change(random.Random(3), 30)
+        first = self.desk.hold()
+        self.desk.rebase()
+        last = self.desk.hold()
+        for pair in ((first, last), (first, first)):
+            self.assertEqual(library().desk_diff(self.desk.handle, pair[0].hold, pair[1].hold, interface.Diff()), Code.NO_SEAT)
+        self.assertEqual(self.desk.diff(last, last, view(), 1), [])
+        first.free()
+        self.desk.release(last)
+
+
+if __name__ == "__main__":
+    unittest.main()
