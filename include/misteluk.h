@@ -122,69 +122,43 @@ typedef struct {
  * anything but its time. `size` is sizeof(misteluk_columns), as of limits; no pointer is NULL. */
 typedef struct {
     size_t size;
-    const char *kind_text;
-    size_t kind_text_length;
-    const uint64_t *kind_ends;
-    size_t kind_ends_length;
-    const char *text;
-    size_t text_length;
-    const uint64_t *ends;
-    size_t ends_length;
-    const uint8_t *operations;
-    size_t operations_length;
-    const uint32_t *kinds;
-    size_t kinds_length;
-    const uint32_t *sources;
-    size_t sources_length;
-    const uint32_t *targets;
-    size_t targets_length;
-    const int64_t *weights;
-    size_t weights_length;
-    const uint64_t *times;
-    size_t times_length;
+    const char *kind_text; size_t kind_text_length;
+    const uint64_t *kind_ends; size_t kind_ends_length;
+    const char *text; size_t text_length;
+    const uint64_t *ends; size_t ends_length;
+    const uint8_t *operations; size_t operations_length;
+    const uint32_t *kinds; size_t kinds_length;
+    const uint32_t *sources; size_t sources_length;
+    const uint32_t *targets; size_t targets_length;
+    const int64_t *weights; size_t weights_length;
+    const uint64_t *times; size_t times_length;
 } misteluk_columns;
 
 /* Columns of one length that edges are written to. `size` is sizeof(misteluk_edge_columns), as of limits; no pointer is NULL. */
 typedef struct {
     size_t size;
-    uint32_t *kinds;
-    size_t kinds_length;
-    uint32_t *sources;
-    size_t sources_length;
-    uint32_t *targets;
-    size_t targets_length;
-    int64_t *weights;
-    size_t weights_length;
-    uint64_t *firsts;
-    size_t firsts_length;
-    uint64_t *recents;
-    size_t recents_length;
+    uint32_t *kinds; size_t kinds_length;
+    uint32_t *sources; size_t sources_length;
+    uint32_t *targets; size_t targets_length;
+    int64_t *weights; size_t weights_length;
+    uint64_t *firsts; size_t firsts_length;
+    uint64_t *recents; size_t recents_length;
 } misteluk_edge_columns;
 
 /* Columns of one length that what became of edges is written to: states, MISTELUK_GONE to MISTELUK_CHANGED, the edges' kinds and
  * ends, and what they bore before and bear after. `size` is sizeof(misteluk_diff_columns), as of limits; no pointer is NULL. */
 typedef struct {
     size_t size;
-    uint8_t *states;
-    size_t states_length;
-    uint32_t *kinds;
-    size_t kinds_length;
-    uint32_t *sources;
-    size_t sources_length;
-    uint32_t *targets;
-    size_t targets_length;
-    int64_t *weights_before;
-    size_t weights_before_length;
-    uint64_t *firsts_before;
-    size_t firsts_before_length;
-    uint64_t *recents_before;
-    size_t recents_before_length;
-    int64_t *weights_after;
-    size_t weights_after_length;
-    uint64_t *firsts_after;
-    size_t firsts_after_length;
-    uint64_t *recents_after;
-    size_t recents_after_length;
+    uint8_t *states; size_t states_length;
+    uint32_t *kinds; size_t kinds_length;
+    uint32_t *sources; size_t sources_length;
+    uint32_t *targets; size_t targets_length;
+    int64_t *weights_before; size_t weights_before_length;
+    uint64_t *firsts_before; size_t firsts_before_length;
+    uint64_t *recents_before; size_t recents_before_length;
+    int64_t *weights_after; size_t weights_after_length;
+    uint64_t *firsts_after; size_t firsts_after_length;
+    uint64_t *recents_after; size_t recents_after_length;
 } misteluk_diff_columns;
 
 /* What became of a batch's operations, each counted once but an expiry, which counts the edges that it took away. */

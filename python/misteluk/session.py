@@ -7,8 +7,7 @@ from contextlib import suppress
 from typing import (TYPE_CHECKING, Any, Callable, Dict, Generic, Iterable, List, Literal, Optional, Sequence, Tuple, TypeVar,
                     Union, overload)
 
-from . import totals, walks
-from .engine.interface import CHANGED, GONE, NEW
+from . import diffs, totals, walks
 from .engine.protocol import WHOLE, Arrays, Denied, Held, Scope
 from .errors import BadName, NoKind, NoVertex, SessionClosed, needed, refusal
 from .values import records
@@ -311,35 +310,12 @@ class Session(Generic[W, T]):
         <Diff: 1 gone, 0 new, 0 changed>
         """
         self._must_show_as(later)
-        found = self._diff_at_once(later, kind, since, until)
-        return Diff(*(it._edges_or_none(kind, since, until) for it in (self, later))) if found is None else found
-
-    def _diff_at_once(self, later: Session[Any, Any], kind: Optional[str], since: Moment, until: Moment) -> Optional[Diff[W, T]]:
-        """What became of edges where the store tells that by itself: between two versions that it holds."""
-        if later.store is not self.store:
-            return None
-        scopes = [it._scope("edges", kind, since, until)[0] for it in (self, later)]
-        try:
-            found = self._held.differences(later._held, scopes[1])
-        except Denied:  # (neither version has the kind)
-            return None
-        if found is None:
-            return None
-        gone, new, changed = map(found.of, (GONE, NEW, CHANGED))
-        return Diff._of(self._edges(found.before.at(gone)), later._edges(found.after.at(new)),
-                        self._edges(found.before.at(changed)), later._edges(found.after.at(changed)))
+        return diffs.between(self, later, kind, since, until)
 
     def _must_show_as(self, other: Session[Any, Any]) -> None:
         """Raises `ValueError` where weights and times of the two stores don't mean the same."""
         if not self._terms.units._shows_as(other._terms.units):
             raise ValueError(f"the sessions' stores have other units: {self.store.units!r}, and {other.store.units!r}")
-
-    def _edges_or_none(self, kind: Optional[str], since: Moment, until: Moment) -> Edges[W, T]:
-        """All edges; none of a kind that the version doesn't have."""
-        try:
-            return self.edges(kind, since, until)
-        except NoKind:
-            return self._edges(Arrays.none())
 
     # From vertex to vertex.
 

@@ -6,8 +6,9 @@ from unittest import mock
 from support import IN_PROCESS, IS_SERVED, Case, optional
 
 import misteluk
+from misteluk import diffs
 from misteluk.engine import differences
-from misteluk.session import LAST, Session
+from misteluk.session import LAST
 from misteluk.values import diff
 
 numpy = optional("numpy")
@@ -21,7 +22,7 @@ def told(found):
 
 def by_sets(earlier, later, scope):
     """The same from the edges of both versions."""
-    before, after = ({it[:3]: it[3] for it in session._edges_or_none(*scope)} for session in (earlier, later))
+    before, after = ({it[:3]: it[3] for it in diffs.edges_or_none(session, *scope)} for session in (earlier, later))
     changed = [it for it in after if it in before and before[it] != after[it]]
     rows = [[(*it, before[it]) for it in before if it not in after], [(*it, after[it]) for it in after if it not in before]]
     return [*rows, *([(*it, marks[it]) for it in changed] for marks in (before, after))]
@@ -31,7 +32,7 @@ def by_sets(earlier, later, scope):
 class Diffs(Case):
     def of_the_library(self, earlier, later, *scope):
         """What the library tells: whoever reads all edges of a version fails."""
-        with mock.patch.object(Session, "_edges_or_none", side_effect=AssertionError("the edges were read")):
+        with mock.patch.object(diffs, "edges_or_none", side_effect=AssertionError("the edges were read")):
             return earlier.diff(later, *scope)
 
     def change(self, made, store, names, count):
@@ -74,7 +75,7 @@ class Diffs(Case):
                 self.assertEqual(found, by_sets(earlier, later, scope))
                 for way in (None, numpy):
                     with mock.patch.object(diff, "numpy_for", lambda count, way=way: way if count else None):
-                        self.assertEqual(told(diff.Diff(*(it._edges_or_none(*scope) for it in (earlier, later)))), found)
+                        self.assertEqual(told(diff.Diff(*(diffs.edges_or_none(it, *scope) for it in (earlier, later)))), found)
                 pairs += 1
             store.close()
 

@@ -15,7 +15,7 @@ from misteluk.engine import interface  # noqa: E402
 from misteluk.engine.interface import ANY_KIND, NOT_REACHED, Code, Library  # noqa: E402
 
 __all__ = ["ANY_KIND", "EVER", "NOT_REACHED", "TOP", "Batch", "Code", "Desk", "Library", "Owner", "Refused", "Version", "at",
-           "column", "columns", "diff_columns", "edge_columns", "fields", "given", "interface", "limits", "must", "view", "whole", "written_to"]
+           "column", "columns", "edge_columns", "fields", "given", "interface", "limits", "must", "view", "whole", "written_to"]
 EVER = (0, (1 << 64) - 1)
 # A row of a table of edges: kind, source, target, weight, first and recent time.
 Row = Tuple[int, int, int, int, int, int]
@@ -68,12 +68,6 @@ def given(words: Sequence[Any]) -> interface.Columns:
 def edge_columns(table: "Sequence[array.array[int]]", count: int) -> interface.EdgeColumns:
     """Columns for edges, of which so many places count, as a call takes them."""
     return written_to([it for each in table for it in (at(each), count)])
-
-
-def diff_columns(table: "Sequence[array.array[int]]", count: int) -> interface.DiffColumns:
-    """Columns for what became of edges, of which so many places count, as a call takes them."""
-    words = [it for each in table for it in (at(each), count)]
-    return interface.DiffColumns(sizeof(interface.DiffColumns), *words)
 
 
 def written_to(words: Sequence[int]) -> interface.EdgeColumns:
@@ -369,27 +363,6 @@ class Desk(Owner):
         assert version.hold is not None
         must(self.library.desk_release(self.handle, version.hold))
         version.free()
-
-    def diff(self, earlier: Version, later: Version, seen: interface.View, room: int) -> List[Tuple[int, ...]]:
-        """What became of edges from one held version to another, by as many calls as columns of so many places take: longer ones
-        where a source's don't fit."""
-        assert earlier.hold is not None and later.hold is not None
-        pair, source, count = interface.Diff(), c_uint32(), c_uint64()
-        must(self.library.desk_diff(self.handle, earlier.hold, later.hold, pair))
-        found: List[Tuple[int, ...]] = []
-        try:
-            while source.value < later.size.vertices:
-                table = [column(it, room) for it in "BIIIqQQqQQ"]
-                code = self.library.diff_edges(pair, seen, source, diff_columns(table, room), count)
-                if code == Code.BAD_LENGTH:
-                    assert count.value > room and not any(map(any, table))
-                    room = count.value
-                    continue
-                must(code)
-                found += itertools.islice(zip(*table), count.value)
-        finally:
-            self.library.diff_free(pair)
-        return found
 
     def rebase(self) -> None:
         must(self.library.desk_rebase(self.handle))

@@ -4,7 +4,8 @@ import unittest
 from ctypes import c_uint32, c_uint64, sizeof
 from typing import Dict, List, Tuple
 
-from calls import ANY_KIND, EVER, Batch, Code, Desk, Version, column, diff_columns, interface, must, view
+from calls import ANY_KIND, EVER, Batch, Code, Desk, Version, column, interface, must, view
+from differing import diff_columns, differences
 from places import library
 
 GONE, NEW, CHANGED = interface.GONE, interface.NEW, interface.CHANGED
@@ -73,7 +74,7 @@ class Diffs(unittest.TestCase):
                     wanted = plain(held[first], held[last], seen)
                 else:  # (all are new: the earlier version has no such kind)
                     wanted = [(NEW, *it[:3], 0, 0, 0, *it[3:]) for it in held[last].edges(seen, 4_096)]
-                self.assertEqual(self.desk.diff(held[first], held[last], seen, made.choice((1, 6, 500))), wanted)
+                self.assertEqual(differences(self.desk, held[first], held[last], seen, made.choice((1, 6, 500))), wanted)
             for it in held:
                 self.desk.release(it)
 
@@ -116,7 +117,7 @@ class Diffs(unittest.TestCase):
         last = self.desk.hold()
         for pair in ((first, last), (first, first)):
             self.assertEqual(library().desk_diff(self.desk.handle, pair[0].hold, pair[1].hold, interface.Diff()), Code.NO_SEAT)
-        self.assertEqual(self.desk.diff(last, last, view(), 1), [])
+        self.assertEqual(differences(self.desk, last, last, view(), 1), [])
         first.free()
         self.desk.release(last)
 

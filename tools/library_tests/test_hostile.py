@@ -6,8 +6,8 @@ import unittest
 from ctypes import c_uint32, c_uint64
 from typing import Any, Dict, List, Sequence, Tuple
 
-from calls import (ANY_KIND, EVER, Batch, Code, Desk, at, column, diff_columns, fields, given, interface, limits, view, whole,
-                   written_to)
+from calls import ANY_KIND, EVER, Batch, Code, Desk, at, column, fields, given, interface, limits, view, whole, written_to
+from differing import diff_columns
 from places import library
 
 GUARD = 0x5A
@@ -62,7 +62,7 @@ class Hostile(unittest.TestCase):
     def test_handles_that_hold_nothing(self) -> None:
         it, desk, batch, none = self.library, interface.Desk(), interface.Batch(), interface.Version()
         held, counts, number, name, one = self.held.handle, interface.Counts(), c_uint64(), (b"k", 1), column("Q", 9)
-        where, few = at(one), c_uint32()
+        where, few, hold, diff = at(one), c_uint32(), interface.Hold(), interface.Diff()
         table, into = given([*name, where, 1, *name, where, 1, *[where, 1] * 6]), written_to([where, 1] * 6)
         edge = (*name, *name, *name)
         codes = [
@@ -75,9 +75,8 @@ class Hostile(unittest.TestCase):
             it.desk_cancel(self.desk.handle), it.desk_collect(desk, number), it.desk_stat(desk, interface.Stat()),
             it.desk_limits(desk, limits(1, 1, 1)), it.desk_open_columns(desk, table, number),
             it.desk_insert_columns(desk, *name, *name, *[where, 1] * 5, counts, number),
-            it.desk_hold(desk, none, interface.Hold()), it.desk_release(desk, interface.Hold()), it.desk_rebase(desk),
-            it.desk_diff(desk, interface.Hold(), interface.Hold(), interface.Diff()),
-            it.diff_edges(interface.Diff(), view(), few, diff_columns([one] * 10, 1), number),
+            it.desk_hold(desk, none, hold), it.desk_release(desk, hold), it.desk_diff(desk, hold, hold, diff),
+            it.desk_rebase(desk), it.diff_edges(diff, view(), few, diff_columns([one] * 10, 1), number),
             it.version_clone(none, interface.Version()), it.version_size(none, interface.Size()),
             it.version_vertex(none, *name, few), it.version_kind(none, *name, few),
             it.version_names(none, 0, where, 1, where, 1), it.version_kind_names(none, 0, where, 1, where, 1),
@@ -89,10 +88,9 @@ class Hostile(unittest.TestCase):
             it.version_in_edges(none, view(), 0, into, number), it.version_weights_in(none, view(), where, 1),
             it.version_names_like(none, *name, few, where, 1, number),
         ]
-        self.assertEqual(codes, [Code.NO_HANDLE] * len(codes))
-        self.assertEqual([desk.at, batch.at, none.at, number.value, few.value, *one, *fields(counts)], [None] * 3 + [0] * 18)
-        # And these may be given: nothing is there to end.
-        it.batch_free(batch), it.desk_free(desk), it.version_free(none), it.diff_free(interface.Diff())
+        told = [desk.at, batch.at, none.at, diff.at, number.value, few.value, *one, *fields(counts)]
+        self.assertEqual((codes, told), ([Code.NO_HANDLE] * len(codes), [None] * 4 + [0] * 18))
+        it.batch_free(batch), it.desk_free(desk), it.version_free(none), it.diff_free(diff)
         # A handle that is to be made holds something already, and holds it still.
         copy = self.held.clone()
         kept = [self.batch.handle.at, self.desk.handle.at, held.at, copy.handle.at]

@@ -9,6 +9,7 @@ import unittest
 from typing import Any, Callable, List, Optional, Tuple
 
 from calls import Batch, Code, Desk, Library, Operation, Owner, Refused, Version, fields, interface, must, view, whole
+from differing import differences
 from places import compiler, linker, static_library
 
 INSERT, ADD, REMOVE, EXPIRE = interface.INSERT, interface.ADD, interface.REMOVE, interface.EXPIRE
@@ -110,8 +111,8 @@ CALLS: "dict[str, Callable[[State], object]]" = {
     "version_weights_in": lambda it: it.held.weights_in(view()),
     "version_row": lambda it: it.held.row(view(), 0),
     "version_edges": lambda it: it.held.edges(view(), 3),
-    "desk_diff": lambda it: differences(it, 1),
-    "diff_edges": lambda it: differences(it, 9),
+    "desk_diff": lambda it: differences_to(it, 1),
+    "diff_edges": lambda it: differences_to(it, 9),
     "version_names": lambda it: it.held.names(),
     "version_names_like": lambda it: it.held.names_like(b"b", 1),
     "version_vertex": lambda it: it.held.vertex(b"b"),
@@ -155,11 +156,11 @@ def release_one_of_two(state: State) -> object:
     return fields(state.desk.stat())
 
 
-def differences(state: State, room: int) -> object:
+def differences_to(state: State, room: int) -> object:
     """What became of edges from the version that is held to the last one, in columns of so many places."""
     last = state.desk.hold()
     try:
-        return state.desk.diff(state.held, last, view(), room)
+        return differences(state.desk, state.held, last, view(), room)
     finally:
         state.desk.release(last)
 

@@ -7,7 +7,8 @@ import os
 import unittest
 from typing import Any, Tuple
 
-from calls import Batch, Code, Desk, columns, diff_columns, edge_columns, column, fields, interface, limits, view
+from calls import Batch, Code, Desk, columns, edge_columns, column, fields, interface, limits, view
+from differing import diff_columns
 from places import library
 
 PAGE, WITHOUT_WEIGHT, MOST_WEIGHT = mmap.PAGESIZE, 24, 1 << 40

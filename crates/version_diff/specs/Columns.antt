@@ -38,8 +38,8 @@ abbrev pub are_as_long : ℕ → List ℕ → List ℕ → List ℕ → MarkColu
 are_as_long n kinds sources targets before after =
     (length kinds == n) && (length sources == n) && (length targets == n) && are_marks_long n before && are_marks_long n after
 
-abbrev pub are_alike : DiffColumns → Bool
-are_alike c = are_as_long (length c.states) c.kinds c.sources c.targets c.before c.after
+abbrev pub have_one_length : DiffColumns → Bool
+have_one_length c = are_as_long (length c.states) c.kinds c.sources c.targets c.before c.after
 
 -- with what an edge bears, and with what became of one, at a place
 abbrev pub with_marks : ℕ → EdgeMarks → MarkColumns → MarkColumns
@@ -89,13 +89,13 @@ diff_table source columns = record { source = source; columns = columns }
 
 abbrev pub WritesDifferences : Filter → PairView → DiffTable → DiffTable → ℕ → Result (Unit {0}) DiffError → Type 0
 WritesDifferences f p old new count (Ok _) =
-    (are_alike old.columns ≡ true)
+    (have_one_length old.columns ≡ true)
     × (differences : List EdgeDifference)
     × AreWhole f p old.source new.source (length old.columns.states) differences
     × (new.columns ≡ with_differences 0 differences old.columns)
     × (count ≡ length differences)
 WritesDifferences f p old new count (Err BadLength) =
     (new ≡ old)
-    × ((are_alike old.columns ≡ false)
+    × ((have_one_length old.columns ≡ false)
     ⊎ AreTooMany f p old.source (length old.columns.states) count)
-WritesDifferences f p old new count (Err OutOfMemory) = (new ≡ old) × (are_alike old.columns ≡ true)
+WritesDifferences f p old new count (Err OutOfMemory) = (new ≡ old) × (have_one_length old.columns ≡ true)

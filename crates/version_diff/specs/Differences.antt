@@ -34,8 +34,8 @@ AreApart (e ∷ es) = (edge_to es e.kind e.target ≡ None) × AreApart es
 abbrev pub bears_same : Stamp → Stamp → Bool
 bears_same s t = int_eq s.weight t.weight && (s.first == t.first) && (s.recent == t.recent)
 
-abbrev pub marks_of : Stamp → EdgeMarks
-marks_of s = record { weight = s.weight; first = s.first; recent = s.recent }
+abbrev pub borne_by : Stamp → EdgeMarks
+borne_by s = record { weight = s.weight; first = s.first; recent = s.recent }
 
 abbrev pub no_marks : EdgeMarks
 no_marks = record { weight = pos 0; first = 0; recent = 0 }
@@ -43,15 +43,15 @@ no_marks = record { weight = pos 0; first = 0; recent = 0 }
 -- an edge of a source that is gone, one that is new, and one that changed
 abbrev pub gone_edge : ℕ → LentEdge → EdgeDifference
 gone_edge source e =
-    record { state = 0; kind = e.kind; source = source; target = e.target; before = marks_of e.stamp; after = no_marks }
+    record { state = 0; kind = e.kind; source = source; target = e.target; before = borne_by e.stamp; after = no_marks }
 
 abbrev pub new_edge : ℕ → LentEdge → EdgeDifference
 new_edge source e =
-    record { state = 1; kind = e.kind; source = source; target = e.target; before = no_marks; after = marks_of e.stamp }
+    record { state = 1; kind = e.kind; source = source; target = e.target; before = no_marks; after = borne_by e.stamp }
 
 abbrev pub changed_edge : ℕ → LentEdge → LentEdge → EdgeDifference
 changed_edge source d e =
-    record { state = 2; kind = e.kind; source = source; target = e.target; before = marks_of d.stamp; after = marks_of e.stamp }
+    record { state = 2; kind = e.kind; source = source; target = e.target; before = borne_by d.stamp; after = borne_by e.stamp }
 
 -- an earlier edge is gone where there is none later
 abbrev pub if_gone : ℕ → LentEdge → Option LentEdge → Option EdgeDifference

@@ -2,7 +2,7 @@
 
 ghost use Rattle.std.specs.Prelude.{◌≡◌, ◌≤◌, length, true};
 ghost use Rattle.version_diff.specs.Columns as diff;
-ghost use Rattle.version_diff.specs.Columns.{diff_columns, mark_columns, are_as_long, are_alike, with_differences, WritesDifferences, diff_table};
+ghost use Rattle.version_diff.specs.Columns.{diff_columns, mark_columns, are_as_long, have_one_length, with_differences, WritesDifferences, diff_table};
 
 use crate::pairs::VersionPair;
 use crate::rows::EdgeDifference;
@@ -64,7 +64,7 @@ fn write_each(
     firsts_after: &mut [u64],
     recents_after: &mut [u64],
 )
-    requires long { are_alike (diff_columns states.old kinds.old sources.old targets.old
+    requires long { have_one_length (diff_columns states.old kinds.old sources.old targets.old
         (mark_columns weights_before.old firsts_before.old recents_before.old) (mark_columns weights_after.old firsts_after.old recents_after.old)) ≡ true }
     requires room { length differences.now ≤ length states.old }
     ensures { diff_columns states.new kinds.new sources.new targets.new

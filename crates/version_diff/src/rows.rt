@@ -4,7 +4,7 @@ ghost use Rattle.std.specs.Prelude.{◌≡◌, ◌++◌, IsTrue, OnOk};
 ghost use Rattle.std.specs.Option.{option_map};
 ghost use Rattle.edge_block.specs.Lending.{lent_edge};
 ghost use Rattle.graph_version.specs.Sharing.{block_values};
-ghost use Rattle.version_diff.specs.Differences.{seen_in_block, seen_in, edge_to, bears_same, marks_of, gone_edge, gone_among, not_same_among, difference_of, if_not_same, AreApart};
+ghost use Rattle.version_diff.specs.Differences.{seen_in_block, seen_in, edge_to, bears_same, borne_by, gone_edge, gone_among, not_same_among, difference_of, if_not_same, AreApart};
 
 use crate::left::left_of;
 use edge_block::{Block, EdgeRef};
@@ -48,7 +48,7 @@ pub struct EdgeDifference {
 
 /// What an edge that is lent bears.
 fn marks(edge: &EdgeRef<'_>) -> EdgeMarks
-    ensures { result ≡ marks_of (lent_edge edge.now).stamp }
+    ensures { result ≡ borne_by (lent_edge edge.now).stamp }
 {
     EdgeMarks {
         weight: *edge.weight,

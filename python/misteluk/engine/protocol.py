@@ -115,8 +115,8 @@ class Flight(Protocol):
 
 
 class Differences(NamedTuple):
-    """Edges that are gone, new or changed: the state of each, and the edges as they were and as they are. Where an edge wasn't there,
-    or isn't, its weight and times are 0."""
+    """Edges that are gone, new or changed: the state of each, and the edges as they were and as they are. Where an edge wasn't
+    there, or isn't, its weight and times are 0."""
 
     states: "array[int]"
     before: Arrays

@@ -123,8 +123,7 @@ class ServedVersion:
     def edges(self, scope: Scope) -> Arrays:
         return Arrays(*self._columns("edges", scope))
 
-    def differences(self, later: Held, scope: Scope) -> None:
-        return None  # (by the edges of both)
+    def differences(self, later: Held, scope: Scope) -> None: ...  # (they are found by the edges of both)
 
     def out_of(self, scope: Scope, name: str) -> Arrays:
         found = Arrays(*self._columns("out_of", scope, name=name))
