@@ -120,8 +120,9 @@ class Diffs(unittest.TestCase):
         first = self.desk.hold()
         self.desk.rebase()
         last = self.desk.hold()
-        for pair in ((first, last), (first, first)):
-            self.assertEqual(library().desk_diff(self.desk.handle, hold_of(pair[0]), hold_of(pair[1]), interface.Diff()), Code.NO_SEAT)
+        for it in (last, first):
+            code = library().desk_diff(self.desk.handle, hold_of(first), hold_of(it), interface.Diff())
+            self.assertEqual(code, Code.NO_SEAT)
         self.assertEqual(differences(self.desk, last, last, view(), 1), [])
         first.free()
         self.desk.release(last)

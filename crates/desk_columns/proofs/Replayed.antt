@@ -9,6 +9,7 @@ use Rattle.graph_version.specs.Versions.{content}
 use Rattle.graph_version.proofs.{Empty.content_alone, Rebased.content_rebased}
 use Rattle.store_steps.proofs.AcceptedDesk.{batches_after, opening_after}
 use Rattle.owned_desk.specs.Owned.{OwnedView}
+use Rattle.owned_desk.proofs.GrownNames.{left_twice}
 use Rattle.batch_columns.specs.Operations.{OperationTable}
 use Rattle.desk_columns.specs.Replay.{AppliesBatch, IsBaseOf, IsCutAt, Replayed, Tidies, TidiesOften}
 
@@ -112,10 +113,6 @@ same_left batches g h weights same =
     ∙ ap (λ (x : Graph). unlimited (left_by batches (under h.limits x))) same
 
 -- The base
-
-left_twice : (before others : List (List NamedOp)) (g : Graph) → left_by (before ++ others) g ≡ left_by others (left_by before g)
-left_twice [] others g = refl
-left_twice (batch ∷ before) others g = left_twice before others (after_all batch g)
 
 left_in_parts : (k : ℕ) (batches : List (List NamedOp)) (g : Graph)
     → left_by (drop k batches) (left_by (take k batches) g) ≡ left_by batches g

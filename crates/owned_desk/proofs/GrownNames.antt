@@ -66,7 +66,7 @@ left_grown [] g = grown_self g
 left_grown (ops ∷ batches) g =
     grown_twice g (after_all ops g) (left_by batches (after_all ops g)) (all_grown ops g) (left_grown batches (after_all ops g))
 
-left_twice : (before others : List (List NamedOp)) (g : Graph) → left_by (before ++ others) g ≡ left_by others (left_by before g)
+pub left_twice : (before others : List (List NamedOp)) (g : Graph) → left_by (before ++ others) g ≡ left_by others (left_by before g)
 left_twice [] others g = refl
 left_twice (ops ∷ before) others g = left_twice before others (after_all ops g)
 

@@ -6,7 +6,7 @@ use Rattle.std.proofs.lemmas.List.{get_or-set_same, get_or-set_other, get_or-rep
 use Rattle.std.specs.{Prelude.{Option, None}}
 use Rattle.block_reclamation.specs.{declared.copies.{Pin.Pin, TheConstants.SEATS}, Copies.pin_at}
 use Rattle.graph_version.specs.{Versions.VersionView}
-use Rattle.owned_desk.specs.Kept.{IsEarlier, IsSeatVersion, KeepsVersions, KeptView, version_at}
+use Rattle.owned_desk.specs.Kept.{IsFormerVersion, IsSeatVersion, KeepsVersions, KeptView, seat_version}
 
 -- Nothing is held
 
@@ -16,8 +16,8 @@ none_kept last touched = record {
   seats = length-replicate {A = Option VersionView} SEATS None;
   each = λ seat low.
       let pin : pin_at (replicate SEATS None) seat ≡ None = get_or-replicate SEATS seat None None low in
-      let version : version_at (replicate SEATS None) seat ≡ None = get_or-replicate SEATS seat None None low in
-      subst (λ p. IsSeatVersion touched last p (version_at (replicate SEATS None) seat)) (sym pin)
+      let version : seat_version (replicate SEATS None) seat ≡ None = get_or-replicate SEATS seat None None low in
+      subst (λ p. IsSeatVersion touched last p (seat_version (replicate SEATS None) seat)) (sym pin)
       (subst (IsSeatVersion touched last None) (sym version) tt);
 }
 
@@ -31,19 +31,19 @@ module _ (last : VersionView) (pins : List (Option Pin)) (kept : KeptView) (seat
   changed_kept pin version here = record {
     seats = length-set kept.versions seat version ∙ is.seats;
     each = λ s low. elim (s == seat) as (λ t. (s == seat) ≡ t
-        → IsSeatVersion kept.touched last (pin_at (set pins seat pin) s) (version_at (set kept.versions seat version) s)) [
+        → IsSeatVersion kept.touched last (pin_at (set pins seat pin) s) (seat_version (set kept.versions seat version) s)) [
           | true ↦ λ e.
               (let seats = is.seats in
               let at_pin : pin_at (set pins seat pin) s ≡ pin =
               ap (pin_at (set pins seat pin)) (eqb-true s seat e) ∙ get_or-set_same pins seat pin None (omega (arith, many, within)) in
-              let at_version : version_at (set kept.versions seat version) s ≡ version =
-              ap (version_at (set kept.versions seat version)) (eqb-true s seat e)
+              let at_version : seat_version (set kept.versions seat version) s ≡ version =
+              ap (seat_version (set kept.versions seat version)) (eqb-true s seat e)
               ∙ get_or-set_same kept.versions seat version None (omega (arith, seats, within)) in
-              subst (λ p. IsSeatVersion kept.touched last p (version_at (set kept.versions seat version) s)) (sym at_pin)
+              subst (λ p. IsSeatVersion kept.touched last p (seat_version (set kept.versions seat version) s)) (sym at_pin)
               (subst (IsSeatVersion kept.touched last pin) (sym at_version) here))
           | false ↦ λ e.
               (let apart : (s ≡ seat → ⊥) = λ same. true≢false (sym (eq-eqb s seat same) ∙ e) in
-              subst (λ p. IsSeatVersion kept.touched last p (version_at (set kept.versions seat version) s))
+              subst (λ p. IsSeatVersion kept.touched last p (seat_version (set kept.versions seat version) s))
               (sym (get_or-set_other pins seat s pin None apart))
               (subst (IsSeatVersion kept.touched last (pin_at pins s)) (sym (get_or-set_other kept.versions seat s version None apart))
               (is.each s low)))
@@ -51,7 +51,7 @@ module _ (last : VersionView) (pins : List (Option Pin)) (kept : KeptView) (seat
   }
 
 -- the last version is one that no later batch made another of
-pub last_earlier : (touched : List ℕ) (last : VersionView) → IsEarlier touched last last
+pub last_earlier : (touched : List ℕ) (last : VersionView) → IsFormerVersion touched last last
 last_earlier touched last = record {
   opening = refl;
   later = [];

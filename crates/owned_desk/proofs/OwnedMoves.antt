@@ -18,7 +18,7 @@ use Rattle.store_steps.proofs.SessionRuns.{closing_done, opening_done}
 use Rattle.owned_desk.specs.declared.owned.Hold.{Hold}
 use Rattle.owned_desk.specs.Owned.{OwnedView, IsOwned, IsHoldCounted, IsReleased, HoldsOnce, ReleasesOnce, IsSeatOf}
 use Rattle.graph_version.specs.Versions.{VersionView}
-use Rattle.owned_desk.specs.Kept.{version_at}
+use Rattle.owned_desk.specs.Kept.{seat_version}
 use Rattle.owned_desk.specs.Owned.{copied, count_at, held_pin, opened_owned, with_hold}
 use Rattle.owned_desk.specs.Machine.{Follows, FollowsBatch, FollowsHold, FollowsRelease, IsUnheld, ShowsOwned, collect_events}
 use Rattle.owned_desk.specs.Machine.{hold_events, release_events, seat_session}
@@ -172,14 +172,14 @@ once_follows old new number is r =
       subst (λ (n : OwnedView). Follows old (release_events r.seat count) n) (sym r.new_is)
           (elim (count == 1) as (λ t. Follows old (if t then Release r.seat ∷ [] else [])
           (with_hold old r.seat (if t then None else Some (held_pin number)) (count - 1)
-          (if t then None else version_at old.versions r.seat))) [
+          (if t then None else seat_version old.versions r.seat))) [
             | true ↦ λ w shows. (
               with_sessions w (set w.sessions r.seat Idle),
               closing_done w r.seat hold (found old w r.seat (Some (held_pin number)) is shows r.is_of.0 r.is_of.1),
               seat_shown old w r.seat (count - 1) None None is refl shows,
             )
             | false ↦
-                nothing_follows old (with_hold old r.seat (Some (held_pin number)) (count - 1) (version_at old.versions r.seat)) refl
+                nothing_follows old (with_hold old r.seat (Some (held_pin number)) (count - 1) (seat_version old.versions r.seat)) refl
                 (own_again old.board r.seat (Some (held_pin number)) r.is_of.1)
           ]),
     )

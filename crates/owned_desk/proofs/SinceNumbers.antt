@@ -4,7 +4,7 @@ use Rattle.std.proofs.{Math.Bool.or-false, lemmas.Grind.common_steps}
 use Rattle.std.proofs.lemmas.{Bool.{eq-eqb, eqb-true, true≢false}, List.{get_or_past, take_more, length-take, Folds.list_any-append, Quantifiers.all_pairs_push}}
 use Rattle.std.specs.{Prelude.{All, nat_lt}}
 use Rattle.graph_types.specs.declared.ids.VertexId.{VertexId}
-use Rattle.owned_desk.specs.Touched.{AreSince, is_source, number_at}
+use Rattle.owned_desk.specs.Touched.{AreTouchedSince, is_source, number_at}
 
 -- one number more
 here : (numbers : List ℕ) (x s : ℕ) → s ≡ length numbers → number_at (numbers ++ x ∷ []) s ≡ x
@@ -20,9 +20,9 @@ some : (number x : ℕ) → number < x → nat_lt number x ≡ true
 some number x more = grind (arith, common_steps)
 
 -- a greater one: its source comes at the end
-pub since_later : (number x : ℕ) (numbers : List ℕ) (sources : List VertexId) → AreSince number numbers sources
+pub since_later : (number x : ℕ) (numbers : List ℕ) (sources : List VertexId) → AreTouchedSince number numbers sources
     → All (λ v. v.0 < length numbers) sources → number < x
-    → AreSince number (numbers ++ x ∷ []) (sources ++ record { 0 = length numbers } ∷ [])
+    → AreTouchedSince number (numbers ++ x ∷ []) (sources ++ record { 0 = length numbers } ∷ [])
 since_later number x numbers sources since below more = record {
   rising = all_pairs_push (λ s t. s.0 < t.0) sources (record { 0 = length numbers }) since.rising below;
   are = λ s.
@@ -40,8 +40,8 @@ since_later number x numbers sources since below more = record {
   found s false same = sym (ap (nat_lt number) (here numbers x s same) ∙ some number x more)
 
 -- one that isn't greater
-pub since_kept : (number x : ℕ) (numbers : List ℕ) (sources : List VertexId) → AreSince number numbers sources → x ≤ number
-    → AreSince number (numbers ++ x ∷ []) sources
+pub since_kept : (number x : ℕ) (numbers : List ℕ) (sources : List VertexId) → AreTouchedSince number numbers sources → x ≤ number
+    → AreTouchedSince number (numbers ++ x ∷ []) sources
 since_kept number x numbers sources since low = record {
   rising = since.rising;
   are = λ s.
@@ -60,7 +60,7 @@ since_kept number x numbers sources since low = record {
 -- As far as a loop has come
 
 pub record AreSinceBelow (number i : ℕ) (numbers : List ℕ) (sources : List VertexId) : Type 0 where
-  pub since : AreSince number (take i numbers) sources
+  pub since : AreTouchedSince number (take i numbers) sources
   pub below : All (λ v. v.0 < i) sources
 
 below_more : (i : ℕ) (sources : List VertexId) → All (λ v. v.0 < i) sources
@@ -72,8 +72,8 @@ pub more_since : (number i : ℕ) (numbers : List ℕ) (sources : List VertexId)
 more_since number i numbers sources low more is =
     let many : length (take i numbers) ≡ i = omega (arith, length-take i numbers) in
     record {
-      since = subst (λ ns. AreSince number ns (sources ++ record { 0 = i } ∷ [])) (sym (take_more numbers i 0 low))
-          (subst (λ n. AreSince number (take i numbers ++ get_or numbers i 0 ∷ []) (sources ++ record { 0 = n } ∷ [])) many
+      since = subst (λ ns. AreTouchedSince number ns (sources ++ record { 0 = i } ∷ [])) (sym (take_more numbers i 0 low))
+          (subst (λ n. AreTouchedSince number (take i numbers ++ get_or numbers i 0 ∷ []) (sources ++ record { 0 = n } ∷ [])) many
           (since_later number (get_or numbers i 0) (take i numbers) sources is.since
           (λ k d within. let lower = is.below k d within in omega (arith, lower, many)) more));
       below = below_more i sources is.below;
@@ -82,7 +82,7 @@ more_since number i numbers sources low more is =
 pub same_since : (number i : ℕ) (numbers : List ℕ) (sources : List VertexId) → i < length numbers → get_or numbers i 0 ≤ number
     → AreSinceBelow number i numbers sources → AreSinceBelow number (i + 1) numbers sources
 same_since number i numbers sources low less is = record {
-  since = subst (λ ns. AreSince number ns sources) (sym (take_more numbers i 0 low))
+  since = subst (λ ns. AreTouchedSince number ns sources) (sym (take_more numbers i 0 low))
       (since_kept number (get_or numbers i 0) (take i numbers) sources is.since less);
   below = λ k d within. let lower = is.below k d within in omega (arith, lower);
 }

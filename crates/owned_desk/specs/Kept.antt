@@ -11,18 +11,18 @@ pub record KeptView : Type 0 where
   pub touched : List ℕ
 
 -- the version of a seat
-abbrev pub version_at : List (Option VersionView) → ℕ → Option VersionView
-version_at versions seat = slice_index_or versions seat None
+abbrev pub seat_version : List (Option VersionView) → ℕ → Option VersionView
+seat_version versions seat = slice_index_or versions seat None
 
 -- no seat has a version, and some seat has one
 abbrev pub IsWithoutVersions : List (Option VersionView) → Type 0
-IsWithoutVersions versions = (seat : ℕ) → seat < SEATS → version_at versions seat ≡ None
+IsWithoutVersions versions = (seat : ℕ) → seat < SEATS → seat_version versions seat ≡ None
 
 abbrev pub HasVersion : List (Option VersionView) → Type 0
-HasVersion versions = (seat : ℕ) × IsSome (version_at versions seat)
+HasVersion versions = (seat : ℕ) × IsSome (seat_version versions seat)
 
 -- a version that later batches made the last one of: it has the row of each source that none of them touched
-pub record IsEarlier (touched : List ℕ) (v last : VersionView) : Type 0 where
+pub record IsFormerVersion (touched : List ℕ) (v last : VersionView) : Type 0 where
   pub opening : last.opening ≡ v.opening
   pub later : List (List NamedOp)
   pub batches : last.batches ≡ v.batches ++ later
@@ -33,9 +33,9 @@ abbrev pub IsSeatVersion : List ℕ → VersionView → Option Pin → Option Ve
 IsSeatVersion touched last None None = Unit {0}
 IsSeatVersion touched last None (Some v) = ⊥
 IsSeatVersion touched last (Some pin) None = ⊥
-IsSeatVersion touched last (Some pin) (Some v) = (length v.batches ≡ pin.number) × IsEarlier touched v last
+IsSeatVersion touched last (Some pin) (Some v) = (length v.batches ≡ pin.number) × IsFormerVersion touched v last
 
 -- so it is of each seat
 pub record KeepsVersions (last : VersionView) (pins : List (Option Pin)) (kept : KeptView) : Type 0 where
   pub seats : length kept.versions ≡ SEATS
-  pub each : (seat : ℕ) → seat < SEATS → IsSeatVersion kept.touched last (pin_at pins seat) (version_at kept.versions seat)
+  pub each : (seat : ℕ) → seat < SEATS → IsSeatVersion kept.touched last (pin_at pins seat) (seat_version kept.versions seat)

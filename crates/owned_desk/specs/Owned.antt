@@ -6,7 +6,7 @@ use Rattle.block_reclamation.specs.{Board.{BoardState, no_pins, with_pin}, Copie
 use Rattle.graph_version.specs.Versions.{VersionView}
 use Rattle.store_steps.specs.Desks.{DeskView}
 use Rattle.version_diff.specs.Pairs.{PairView}
-use Rattle.owned_desk.specs.Kept.{KeepsVersions, KeptView, version_at}
+use Rattle.owned_desk.specs.Kept.{KeepsVersions, KeptView, seat_version}
 use Rattle.owned_desk.specs.declared.{errors.HoldError.{HoldError, TheVariants.{NoSeat, OutOfMemory}}, owned.Hold.Hold}
 use Rattle.owned_desk.specs.declared.errors.PairError.{PairError, TheVariants.{NotHeld, Backwards, OutOfMemory as NoMemory}}
 
@@ -90,7 +90,7 @@ pub record ReleasesOnce (old : OwnedView) (number : ℕ) (new : OwnedView) : Typ
   pub seat : ℕ
   pub is_of : IsSeatOf old number seat
   pub new_is : new ≡ with_hold old seat (if count_at old.counts seat == 1 then None else Some (held_pin number))
-      (count_at old.counts seat - 1) (if count_at old.counts seat == 1 then None else version_at old.versions seat)
+      (count_at old.counts seat - 1) (if count_at old.counts seat == 1 then None else seat_version old.versions seat)
 
 -- a hold is taken back: of a former opening nothing is left to release, and of this one the number is held once less
 abbrev pub IsReleased : OwnedView → Hold → OwnedView → Type 0
@@ -113,7 +113,7 @@ pub record HoldsVersion (o : OwnedView) (hold : Hold) (v : VersionView) : Type 0
   pub opening : hold.opening ≡ o.opening
   pub seat : ℕ
   pub is_of : IsSeatOf o hold.number seat
-  pub version : version_at o.versions seat ≡ Some v
+  pub version : seat_version o.versions seat ≡ Some v
 
 -- the hold is of another opening, or its number isn't held
 abbrev pub HoldsNothing : OwnedView → Hold → Type 0

@@ -14,8 +14,8 @@ abbrev pub SameNumbers : List ℕ → List ℕ → Type 0
 SameNumbers old new = (s : ℕ) → number_at new s ≡ number_at old s
 
 -- these sources have this number now, and all others the number of before
-abbrev pub IsTouched : List VertexId → ℕ → List ℕ → List ℕ → Type 0
-IsTouched sources number old new =
+abbrev pub TouchesSources : List VertexId → ℕ → List ℕ → List ℕ → Type 0
+TouchesSources sources number old new =
     (s : ℕ) → number_at new s ≡ (if is_source sources s then number else number_at old s)
 
 -- each of these sources is among the first so many
@@ -23,6 +23,6 @@ abbrev pub HaveRoom : ℕ → List VertexId → Type 0
 HaveRoom room sources = All (λ v. v.0 < room) sources
 
 -- the sources that batches of greater numbers touched, rising
-pub record AreSince (number : ℕ) (numbers : List ℕ) (sources : List VertexId) : Type 0 where
+pub record AreTouchedSince (number : ℕ) (numbers : List ℕ) (sources : List VertexId) : Type 0 where
   pub rising : AreSourcesRising sources
   pub are : (s : ℕ) → is_source sources s ≡ nat_lt number (number_at numbers s)

@@ -4,8 +4,8 @@ ghost use Rattle.std.specs.Prelude.{◌≡◌, ◌⊎◌, None, [], replicate, s
 ghost use Rattle.std.specs.Arc.{arc_value};
 ghost use Rattle.block_reclamation.specs.declared.copies.TheConstants.{SEATS};
 ghost use Rattle.graph_version.specs.declared.versions.Version.{Version};
-ghost use Rattle.owned_desk.specs.Kept.{HasVersion, IsWithoutVersions, version_at};
-ghost use Rattle.owned_desk.specs.Touched.{AreSince, IsTouched, SameNumbers};
+ghost use Rattle.owned_desk.specs.Kept.{HasVersion, IsWithoutVersions, seat_version};
+ghost use Rattle.owned_desk.specs.Touched.{AreTouchedSince, TouchesSources, SameNumbers};
 
 use crate::touched::Touched;
 use block_reclamation::{SEATS, SeatNo};
@@ -65,7 +65,7 @@ impl Kept {
 
     /// The version of a seat, if it has one.
     pub(crate) fn version(&self, seat: SeatNo) -> Option<&Arc<Version>>
-        ensures { option_map (λ v. arc_value {X = Version} v.now) result ≡ version_at self.now.versions seat }
+        ensures { option_map (λ v. arc_value {X = Version} v.now) result ≡ seat_version self.now.versions seat }
     {
         self.versions[usize::from(seat.number())].as_ref()
     }
@@ -84,7 +84,7 @@ impl Kept {
     pub(crate) fn touch(&mut self, sources: &[VertexId], number: u32) -> Result<(), AllocError>
         ensures versions { self.new.versions ≡ self.old.versions }
         ensures touched { OnOk result (IsWithoutVersions self.old.versions
-            ⊎ IsTouched sources.now number self.old.touched self.new.touched) }
+            ⊎ TouchesSources sources.now number self.old.touched self.new.touched) }
         ensures unchanged { OnErr result (SameNumbers self.old.touched self.new.touched) }
     {
         if self.is_empty() {
@@ -95,7 +95,7 @@ impl Kept {
 
     /// The sources that batches of greater numbers touched, rising.
     pub(crate) fn since(&self, alloc: Global, number: u64) -> Result<Vec<VertexId>, AllocError>
-        ensures { IfOk result (λ v. AreSince number self.now.touched v.items) }
+        ensures { IfOk result (λ v. AreTouchedSince number self.now.touched v.items) }
     {
         self.touched.since(alloc, number)
     }

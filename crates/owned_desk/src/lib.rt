@@ -7,11 +7,13 @@
 //! Blelloch, Shun; PLDI 2019).
 #![tactic(auto)]
 
+mod applying;
 mod errors;
 mod kept;
 mod laws;
 mod owned;
 mod owned_ready;
+mod pairs;
 mod seats;
 mod touched;
 

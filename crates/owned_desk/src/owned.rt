@@ -1,45 +1,41 @@
 //! A desk with one owner, who holds versions by their numbers.
 
-ghost use Rattle.std.specs.Prelude.{◌≡◌, ℕ, ◌+◌, length, count_by, IfOk, IfErr, OnOk, OnErr, Some, List, Option, MatchOption};
+ghost use Rattle.std.specs.Prelude.{◌≡◌, ℕ, ◌+◌, length, count_by, IfOk, IfErr, OnOk, OnErr, Some};
 ghost use Rattle.std.specs.Arc.{arc_value};
-ghost use Rattle.graph_types.specs.Step.{outcomes};
 ghost use Rattle.graph_version.specs.Batches.{batch_value};
+ghost use Rattle.batch_apply.specs.Listed.{IsKnown};
 ghost use Rattle.graph_version.specs.declared.versions.Version.{Version};
 ghost use Rattle.graph_version.specs.Versions.{content};
 ghost use Rattle.graph_version.specs.Rebased.{IsRebased};
-ghost use Rattle.batch_apply.specs.Listed.{IsKnown};
 ghost use Rattle.block_reclamation.specs.Status.{is_free, is_retired, is_reclaimable};
 ghost use Rattle.block_reclamation.specs.Board.{IsLeast};
-ghost use Rattle.block_reclamation.specs.declared.copies.Pin.{Pin as SeatPin};
 ghost use Rattle.epoch_core.specs.Worlds.{World};
+ghost use Rattle.store_steps.specs.Acceptances.{Accepts};
 ghost use Rattle.store_steps.specs.Boards.{raised_board};
 ghost use Rattle.store_steps.specs.Desks.{IsCollected, births_in};
 ghost use Rattle.store_steps.specs.Opening.{IsVersionZero, opened_desk};
-ghost use Rattle.store_steps.specs.Acceptances.{Accepts};
 ghost use Rattle.store_steps.specs.Shown.{ShowsWorld};
 ghost use Rattle.store_steps.specs.Steps.{SimulatesAt, recycling};
-ghost use Rattle.owned_desk.specs.Kept.{KeepsVersions};
-ghost use Rattle.owned_desk.specs.Owned.{HoldsNothing, HoldsVersion, IsPairOf, KeepsOwned, RefusesPair, opened_owned, owned_view, HoldsOnce, RefusesHold, IsReleased, RefusesRelease, copied};
+ghost use Rattle.owned_desk.specs.Owned.{KeepsOwned, opened_owned, owned_view, HoldsOnce, RefusesHold, IsReleased, RefusesRelease, copied};
 ghost use Rattle.owned_desk.specs.Owned.{IsSeatFor, IsSeatOf, ReleasesOnce, count_at, held_pin, with_hold};
 ghost use Rattle.desk.specs.Openings.{OpensWith};
-ghost use Rattle.owned_desk.specs.Machine.{Follows, FollowsBatch, FollowsHold, FollowsRelease, HeldAreSnapshots, LeavesHeldBlocks};
-ghost use Rattle.owned_desk.specs.Machine.{IsNumbered, IsUnheld, ShowsMachineStart, ShowsOwned, collect_events};
 ghost use Rattle.desk.specs.Refusals.{Refuses, IsWithin};
+ghost use Rattle.owned_desk.specs.Machine.{Follows, FollowsHold, FollowsRelease, HeldAreSnapshots, LeavesHeldBlocks};
+ghost use Rattle.owned_desk.specs.Machine.{IsNumbered, IsUnheld, ShowsMachineStart, ShowsOwned, collect_events};
 
-use crate::errors::{HoldError, PairError, ReleaseError};
+use crate::applying::touch_sources;
+use crate::errors::{HoldError, ReleaseError};
 use crate::kept::Kept;
 use crate::owned_ready::OwnedReady;
 use crate::seats::seat_with;
 use batch_apply::KnownEnds;
 use block_reclamation::{Board, Pin, SEATS, SeatNo};
-use core::mem::replace_with;
-use desk::{Accepted, Collected, Desk, Ready, Zero};
+use desk::{Collected, Desk, Zero};
 use graph_types::{ApplyError, Batch};
 use graph_version::Version;
 use std::alloc::AllocError;
 use std::marker::Model;
 use std::sync::Arc;
-use version_diff::VersionPair;
 
 /// A desk, a board of pins, and how often each number of a version is held: 16 numbers at most, each as often as one likes. A
 /// collection keeps the blocks of the versions held.
@@ -52,14 +48,14 @@ use version_diff::VersionPair;
 /// desk.release(held.hold)?;
 /// ```
 pub struct OwnedDesk {
-    desk: Desk,
-    board: Board,
+    pub(crate) desk: Desk,
+    pub(crate) board: Board,
     /// How often each seat's number is held.
-    counts: [u64; SEATS],
+    pub(crate) counts: [u64; SEATS],
     /// How often the desk was opened anew.
-    opening: u64,
+    pub(crate) opening: u64,
     /// The version of each seat's number, and what batches touched since.
-    kept: Kept,
+    pub(crate) kept: Kept,
 }
 
 // Written by hand: who lets one go rests on this function, and not on how each part is let go.
@@ -140,86 +136,8 @@ impl OwnedDesk {
         self.opening
     }
 
-    /// Applies a batch, by the caller alone; or refuses it, and leaves all as it was, as [`Desk::apply`] does.
-    pub fn apply(&mut self, batch: Arc<Batch>) -> Result<Accepted, ApplyError>
-        ensures accepted { OnOk result (Accepts self.old.desk (batch_value batch) self.new.desk) }
-        ensures number { IfOk result (λ a. a.number ≡ length self.new.desk.last.batches) }
-        ensures outcomes { IfOk result (λ a. a.outcomes ≡ outcomes (batch_value batch) (content self.old.desk.last)) }
-        ensures within { OnOk result (IsWithin self.old.desk.last (count_by is_free self.old.desk.pool) (batch_value batch)) }
-        ensures refused { IfErr result (Refuses self.old.desk.last (count_by is_free self.old.desk.pool) (batch_value batch)) }
-        ensures held { self.new ≡ record self.old { desk = self.new.desk } }
-        ensures follows { OnOk result (FollowsBatch self.old (batch_value batch) self.new) }
-        ensures snapshots { HeldAreSnapshots self.new }
-        ensures unchanged { OnErr result (self.new ≡ self.old) }
-    {
-        self.apply_known(batch, &KnownEnds::Looked(&[]))
-    }
-
-    /// As `apply`, where this is known of the ends of the batch's operations, as [`Desk::apply_known`] does.
-    pub fn apply_known(
-        &mut self,
-        batch: Arc<Batch>,
-        known: &KnownEnds<'_>,
-    ) -> Result<Accepted, ApplyError>
-        requires known { IsKnown (content self.old.desk.last).names (batch_value batch) known.now }
-        ensures accepted { OnOk result (Accepts self.old.desk (batch_value batch) self.new.desk) }
-        ensures number { IfOk result (λ a. a.number ≡ length self.new.desk.last.batches) }
-        ensures outcomes { IfOk result (λ a. a.outcomes ≡ outcomes (batch_value batch) (content self.old.desk.last)) }
-        ensures within { OnOk result (IsWithin self.old.desk.last (count_by is_free self.old.desk.pool) (batch_value batch)) }
-        ensures refused { IfErr result (Refuses self.old.desk.last (count_by is_free self.old.desk.pool) (batch_value batch)) }
-        ensures held { self.new ≡ record self.old { desk = self.new.desk } }
-        ensures follows { OnOk result (FollowsBatch self.old (batch_value batch) self.new) }
-        ensures snapshots { HeldAreSnapshots self.new }
-        ensures unchanged { OnErr result (self.new ≡ self.old) }
-    {
-        replace_with(self, (batch, known), OwnedDesk::applied)
-    }
-
-    /// As `apply_known`, by value.
-    fn applied(
-        self,
-        given: (Arc<Batch>, &KnownEnds<'_>),
-    ) -> (OwnedDesk, Result<Accepted, ApplyError>)
-        requires known { IsKnown (content self.desk.last).names (batch_value given.0) given.1.now }
-        ensures accepted { OnOk result.1 (Accepts self.desk (batch_value given.entry.0) result.0.desk) }
-        ensures number { IfOk result.1 (λ a. a.number ≡ length result.0.desk.last.batches) }
-        ensures outcomes { IfOk result.1 (λ a. a.outcomes ≡ outcomes (batch_value given.entry.0) (content self.desk.last)) }
-        ensures within { OnOk result.1 (IsWithin self.desk.last (count_by is_free self.desk.pool) (batch_value given.entry.0)) }
-        ensures refused { IfErr result.1 (Refuses self.desk.last (count_by is_free self.desk.pool) (batch_value given.entry.0)) }
-        ensures held { result.0 ≡ record self { desk = result.0.desk } }
-        ensures follows { OnOk result.1 (FollowsBatch self (batch_value given.entry.0) result.0) }
-        ensures unchanged { OnErr result.1 (result.0 ≡ self) }
-    {
-        let (batch, known) = given;
-        match self.begin_known(batch, known) {
-            Ok(ready) => {
-                let (desk, accepted) = ready.finish();
-                (desk, Ok(accepted))
-            }
-            Err((desk, error)) => (desk, Err(error)),
-        }
-    }
-
-    /// Makes a batch ready, by the caller alone; or refuses it, and gives the desk back as it was, as [`Desk::begin`] does.
-    ///
-    /// ```
-    /// let desk = match desk.begin(batch) {
-    ///     Ok(ready) => ready.finish().0,
-    ///     Err((desk, _error)) => desk,
-    /// };
-    /// ```
-    pub fn begin(self, batch: Arc<Batch>) -> Result<OwnedReady, (OwnedDesk, ApplyError)>
-        ensures begun { IfOk result (λ r. (r.old ≡ self) × (r.ops ≡ batch_value batch)) }
-        ensures accepts { IfOk result (λ r. Accepts self.desk (batch_value batch) r.new) }
-        ensures within { OnOk result (IsWithin self.desk.last (count_by is_free self.desk.pool) (batch_value batch)) }
-        ensures refused { IfErr result (λ e. Refuses self.desk.last (count_by is_free self.desk.pool) (batch_value batch) e.1) }
-        ensures unchanged { IfErr result (λ e. e.0 ≡ self) }
-    {
-        self.begin_known(batch, &KnownEnds::Looked(&[]))
-    }
-
     /// As `begin`, where this is known of the ends of the batch's operations.
-    fn begin_known(
+    pub(crate) fn begin_known(
         self,
         batch: Arc<Batch>,
         known: &KnownEnds<'_>,
@@ -365,47 +283,6 @@ impl OwnedDesk {
         Ok(())
     }
 
-    /// The versions of two holds, the second of which has no smaller number, with the sources at which their rows may differ: those
-    /// that batches after the first one touched. It takes 4 bytes for each such source, and time by the vertices, 4 bytes each.
-    ///
-    /// `NotHeld` where one of the versions isn't held, `Backwards` where the first has the greater number, and `OutOfMemory`.
-    ///
-    /// ```
-    /// let before = desk.hold()?.hold;
-    /// desk.apply(batch)?;
-    /// let pair = desk.pair(before, desk.hold()?.hold)?;
-    /// assert!(rt; pair.earlier().number() < pair.later().number());
-    /// ```
-    pub fn pair(&self, first: Hold, second: Hold) -> Result<VersionPair, PairError>
-        ensures pair { IfOk result (IsPairOf self.now first second) }
-        ensures refused { IfErr result (RefusesPair self.now first second) }
-    {
-        let Some(earlier) = self.version_of(first) else {
-            return Err(PairError::NotHeld);
-        };
-        let Some(later) = self.version_of(second) else {
-            return Err(PairError::NotHeld);
-        };
-        if second.number < first.number {
-            return Err(PairError::Backwards);
-        }
-        let sources = self.kept.since(self.desk.allocator(), first.number)?;
-        let (earlier, later) = (Arc::try_clone(earlier)?, Arc::try_clone(later)?);
-        Ok(VersionPair::of(earlier, later, sources))
-    }
-
-    /// The version of a hold, if it is held.
-    fn version_of(&self, hold: Hold) -> Option<&Arc<Version>>
-        ensures { MatchOption result (HoldsNothing self.now hold)
-            (λ v. HoldsVersion self.now hold (arc_value {X = Version} v.now)) }
-    {
-        if hold.opening != self.opening {
-            return None;
-        }
-        let seat = seat_with(&self.board, Some(held_pin(hold.number)))?;
-        self.kept.version(seat)
-    }
-
     /// Opens the desk anew over what the last version holds, in the very blocks: version 0 begins with its content and is laid out
     /// as it, no batch is kept, and nothing is retired or held. Versions that were held answer on; the desk doesn't count their
     /// blocks any more, and a batch that uses such a block takes new memory for it. The error is `AllocError` if memory runs out,
@@ -518,24 +395,11 @@ impl OwnedDesk {
 }
 
 /// The pin of a version that is held.
-fn held_pin(number: u64) -> Pin
+pub(crate) fn held_pin(number: u64) -> Pin
     ensures { result ≡ held_pin number }
 {
     Pin {
         number,
         is_settled: true,
     }
-}
-
-/// Enters that the batch that is ready touches its sources, if something is held.
-fn touch_sources(kept: &mut Kept, ready: &Ready) -> Result<(), AllocError>
-    requires { Accepts ready.now.old ready.now.ops ready.now.new }
-    ensures versions { kept.new.versions ≡ kept.old.versions }
-    ensures before { (pins : List (Option SeatPin)) → KeepsVersions ready.now.old.last pins kept.old
-        → KeepsVersions ready.now.old.last pins kept.new }
-    ensures after { OnOk result ((pins : List (Option SeatPin)) → KeepsVersions ready.now.old.last pins kept.old
-        → KeepsVersions ready.now.new.last pins kept.new) }
-{
-    let number = ready.version().number();
-    kept.touch(ready.sources(), number as u32)
 }

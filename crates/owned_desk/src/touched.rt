@@ -1,7 +1,7 @@
 //! Which sources later batches touched.
 
 ghost use Rattle.std.specs.Prelude.{◌≡◌, ◌≤◌, ◌^◌, [], length, IfOk, OnOk, OnErr};
-ghost use Rattle.owned_desk.specs.Touched.{AreSince, HaveRoom, IsTouched, SameNumbers};
+ghost use Rattle.owned_desk.specs.Touched.{AreTouchedSince, HaveRoom, TouchesSources, SameNumbers};
 
 use graph_types::VertexId;
 use std::alloc::{AllocError, Global};
@@ -42,7 +42,7 @@ impl Touched {
     /// Enters that the batch of this number touches these sources: 4 bytes for each source up to the greatest of them, whatever
     /// it was before. If memory runs out, each source has the number of before.
     pub(crate) fn touch(&mut self, sources: &[VertexId], number: u32) -> Result<(), AllocError>
-        ensures touched { OnOk result (IsTouched sources.now number self.old self.new) }
+        ensures touched { OnOk result (TouchesSources sources.now number self.old self.new) }
         ensures unchanged { OnErr result (SameNumbers self.old self.new) }
     {
         let room = room_for(sources);
@@ -55,7 +55,7 @@ impl Touched {
 
     /// The sources that batches of greater numbers touched, rising.
     pub(crate) fn since(&self, alloc: Global, number: u64) -> Result<Vec<VertexId>, AllocError>
-        ensures { IfOk result (λ v. AreSince number self.now v.items) }
+        ensures { IfOk result (λ v. AreTouchedSince number self.now v.items) }
     {
         let mut sources = Vec::new(alloc);
         for (source, last) in self.numbers.iter().enumerate() {
@@ -82,7 +82,7 @@ fn room_for(sources: &[VertexId]) -> usize
 /// Gives each of these sources this number.
 fn stamp(numbers: &mut [u32], sources: &[VertexId], number: u32)
     requires { HaveRoom (length numbers.old) sources.now }
-    ensures { IsTouched sources.now number numbers.old numbers.new }
+    ensures { TouchesSources sources.now number numbers.old numbers.new }
 {
     for source in sources {
         numbers[source.0 as usize] = number;

@@ -2,7 +2,7 @@ use Rattle.std.proofs.Common.{◌≡◌, ℕ, ◌<◌, List, false, length, map,
 use Rattle.std.proofs.{Math.ListN.get_or-map, lemmas.List.get_or_default}
 use Rattle.std.specs.{Prelude.{Option, None, Some, option_map, is_some}, Arc.arc_value}
 use Rattle.graph_version.specs.{declared.versions.Version.Version}
-use Rattle.owned_desk.specs.Kept.{KeptView, version_at}
+use Rattle.owned_desk.specs.Kept.{KeptView, seat_version}
 use Rattle.owned_desk.proofs.kept.Kept.is_empty.Goals as goal
 
 is_none : {A : Type 0} (x : Option A) → false ≡ is_some x → x ≡ None
@@ -16,8 +16,8 @@ none_at f xs i x low isnt =
 
 pub loop-version-preserved : goal.loop-version-preserved
 loop-version-preserved c =
-    let at : version_at c.args.self.now.versions c.loop-version.version-index ≡ None =
-    sym (ap (λ (k : KeptView). version_at k.versions c.loop-version.version-index) c.self.view_is)
+    let at : seat_version c.args.self.now.versions c.loop-version.version-index ≡ None =
+    sym (ap (λ (k : KeptView). seat_version k.versions c.loop-version.version-index) c.self.view_is)
     ∙ none_at (arc_value {X = Version}) c.self.inside.versions c.loop-version.version-index c.version-item.result
     (let many = c.type_inv.version-items in let low = c.loop-version-test.true in omega (arith, many, low)) c.if-is_some.ensures in
     below_more _ _ c.loop-version.invariant at

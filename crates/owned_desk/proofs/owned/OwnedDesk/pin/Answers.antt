@@ -3,7 +3,7 @@ use Rattle.std.specs.{Arc.arc_value, Prelude.{option_map}, declared.option.Optio
 use Rattle.block_reclamation.specs.{Board.{BoardState, with_pin}, Copies.{settled}}
 use Rattle.graph_version.specs.{declared.versions.Version.Version, Versions.VersionView}
 use Rattle.desk.proofs.TwicePinned.{pin_twice}
-use Rattle.owned_desk.specs.{Kept.{IsEarlier, KeepsVersions, KeptView}, Owned.{OwnedView, IsOwned, IsSeatFor, held_pin, owned_view, with_hold}}
+use Rattle.owned_desk.specs.{Kept.{IsFormerVersion, KeepsVersions, KeptView}, Owned.{OwnedView, IsOwned, IsSeatFor, held_pin, owned_view, with_hold}}
 use Rattle.owned_desk.proofs.{KeptVersions.{changed_kept, last_earlier}, OwnedLaws.{pin_held, pinned_owned}}
 use Rattle.owned_desk.proofs.owned.OwnedDesk.pin.Goals.{After-put}
 use Rattle.owned_desk.proofs.owned.OwnedDesk.pin.Goals as goal
@@ -52,8 +52,8 @@ new c =
 kept : (c : After-put) → KeepsVersions c.self.inside.desk.last c.settle.new.self.pins c.put.new.self
 kept c =
     let o = c.self.inside in
-    let here : IsEarlier o.kept.touched (last c) o.desk.last =
-    subst (λ (v : VersionView). IsEarlier o.kept.touched v o.desk.last) (sym (last_is c)) (last_earlier o.kept.touched o.desk.last) in
+    let here : IsFormerVersion o.kept.touched (last c) o.desk.last =
+    subst (λ (v : VersionView). IsFormerVersion o.kept.touched v o.desk.last) (sym (last_is c)) (last_earlier o.kept.touched o.desk.last) in
     subst (λ (k : KeptView). KeepsVersions o.desk.last c.settle.new.self.pins k) (sym c.put.ensures)
     (subst (λ (b : BoardState). KeepsVersions o.desk.last b.pins
     (record o.kept { versions = set o.kept.versions c.args.seat (Some (last c)) })) (sym (board c))
