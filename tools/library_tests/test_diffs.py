@@ -37,6 +37,11 @@ def plain(earlier: Version, later: Version, seen: interface.View) -> List[Tuple[
     return found
 
 
+def hold_of(version: Version) -> interface.Hold:
+    assert version.hold is not None
+    return version.hold
+
+
 class Diffs(unittest.TestCase):
     def setUp(self) -> None:
         self.desk = Desk(library(), 4_096)
@@ -87,16 +92,16 @@ class Diffs(unittest.TestCase):
         self.change(made, 30)
         last = self.desk.hold()
         for earlier, later, code in ((last, first, Code.BAD_NUMBER), (first, own, Code.NO_SEAT), (own, last, Code.NO_SEAT)):
-            self.assertEqual(it.desk_diff(self.desk.handle, earlier.hold, later.hold, pair), code)
+            self.assertEqual(it.desk_diff(self.desk.handle, hold_of(earlier), hold_of(later), pair), code)
             self.assertIsNone(pair.at)
-        must(it.desk_diff(self.desk.handle, first.hold, last.hold, pair))
-        self.assertEqual(it.desk_diff(self.desk.handle, first.hold, last.hold, pair), Code.HELD_ALREADY)
+        must(it.desk_diff(self.desk.handle, hold_of(first), hold_of(last), pair))
+        self.assertEqual(it.desk_diff(self.desk.handle, hold_of(first), hold_of(last), pair), Code.HELD_ALREADY)
         # What is let go meanwhile stays with the pair.
         wanted = plain(first, last, view())
         source, count, table = c_uint32(), c_uint64(), [column(it, 500) for it in "BIIIqQQqQQ"]
         for it_ in (first, last):
             self.desk.release(it_)
-        self.assertEqual(it.desk_diff(self.desk.handle, first.hold, last.hold, interface.Diff()), Code.NO_SEAT)
+        self.assertEqual(it.desk_diff(self.desk.handle, hold_of(first), hold_of(last), interface.Diff()), Code.NO_SEAT)
         self.assertEqual(it.diff_edges(pair, view(9), source, diff_columns(table, 500), count), Code.NO_KIND)
         uneven = diff_columns(table, 500)
         uneven.recents_after_length = 499
@@ -115,8 +120,9 @@ class Diffs(unittest.TestCase):
         first = self.desk.hold()
         self.desk.rebase()
         last = self.desk.hold()
-        for pair in ((first, last), (first, first)):
-            self.assertEqual(library().desk_diff(self.desk.handle, pair[0].hold, pair[1].hold, interface.Diff()), Code.NO_SEAT)
+        for it in (last, first):
+            code = library().desk_diff(self.desk.handle, hold_of(first), hold_of(it), interface.Diff())
+            self.assertEqual(code, Code.NO_SEAT)
         self.assertEqual(differences(self.desk, last, last, view(), 1), [])
         first.free()
         self.desk.release(last)
