@@ -4,12 +4,12 @@ import contextlib
 import os
 import random
 import subprocess
-import sys
 import threading
 import time
 import unittest
 from unittest import mock
 
+from forking import Python
 from interrupting import places
 from journaled import JournalCase, of_sqlite, ran, told
 from support import HERE, Case, kill, row
@@ -257,8 +257,8 @@ sys.stdin.read()
 
     def killed(self, path, seconds):
         """What a process said that loads rows into a file, and is killed after so many seconds, or once all is in."""
-        with subprocess.Popen([sys.executable, "-c", self.WORDS, path], stdout=subprocess.PIPE, stdin=subprocess.PIPE,
-                              env={**os.environ, "PYTHONPATH": str(HERE.parent)}) as process:
+        with Python(["-c", self.WORDS, path], stdout=subprocess.PIPE, stdin=subprocess.PIPE,
+                    env={**os.environ, "PYTHONPATH": str(HERE.parent)}) as process:
             said = process.stdout.readline()
             if seconds is None:
                 said += process.stdout.readline()
