@@ -5,7 +5,6 @@ The test runs a few of each, and `tools/try-journal` many.
 """
 import collections
 import contextlib
-import functools
 import os
 import random
 import shutil
@@ -37,11 +36,9 @@ def shim_in(room):
 
 
 def child(path, *words, **shim):
-    """A process that feeds the store of a file until it is killed. (The shim is loaded by a new Python alone.)"""
-    told = [HERE / "journaled.py", str(path), *map(str, words)]
-    begin = functools.partial(subprocess.Popen, [sys.executable, *told]) if shim else functools.partial(Python, told)
-    return begin(stdout=subprocess.PIPE, stderr=subprocess.PIPE, start_new_session=True,
-                 env={**os.environ, "PYTHONDONTWRITEBYTECODE": "1", **{it: str(value) for it, value in shim.items()}})
+    """A process that feeds the store of a file until it is killed."""
+    return Python([HERE / "journaled.py", path, *words], stdout=subprocess.PIPE, stderr=subprocess.PIPE, start_new_session=True,
+                  env={**os.environ, "PYTHONDONTWRITEBYTECODE": "1", **{it: str(value) for it, value in shim.items()}})
 
 
 def acknowledged(process, seconds):

@@ -18,8 +18,8 @@ class Python(subprocess.Popen):  # type: ignore[type-arg]
     """The process of `python3` and some words, which `subprocess.Popen` would give too: `-m` and a module, `-c` and a program, or
     a file, with what is said to it.
 
-    It is forked where this process can be. A new Python is begun where it has other threads, or a file that is open: of its locks
-    a fork believes that they are its own."""
+    It is forked where this process can be. A new Python is begun where this one has other threads, or a file that is open: of its
+    locks a fork believes that they are its own; and where that is to load or keep what this one doesn't."""
 
     def __init__(self, words: "List[Any]", *, env: Optional[Dict[str, str]] = None,
                  preexec_fn: Optional[Callable[[], object]] = None, **how: Any) -> None:
@@ -29,7 +29,7 @@ class Python(subprocess.Popen):  # type: ignore[type-arg]
             if preexec_fn:
                 preexec_fn()
             run(told, env)
-        before = become if can_fork() and not how.get("pass_fds") else preexec_fn
+        before = become if can_fork() and "LD_PRELOAD" not in env and not how.get("pass_fds") else preexec_fn
         super().__init__([sys.executable, *told], env=env, preexec_fn=before, **how)
 
 
