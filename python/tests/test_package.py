@@ -129,9 +129,9 @@ class Installs(Case):
 
     def install(self, *words, env=None, apart=False) -> None:
         """Without a network: no place of packages is asked; `apart` with an environment for the build, as pip does by itself."""
-        how = () if apart else ("--no-build-isolation", "--no-compile")
-        done = run(sys.executable, "-m", "pip", "install", "--no-index", "--quiet", "--disable-pip-version-check", "--target",
-                   self.there, *how, *words, cwd=self.room, env=env)
+        how = () if apart else ("--no-build-isolation",)
+        done = run(sys.executable, "-m", "pip", "install", "--no-index", "--quiet", "--disable-pip-version-check", "--no-compile",
+                   "--target", self.there, *how, *words, cwd=self.room, env=env)
         self.assertEqual(done.returncode, 0, done.stdout)
 
     def unpack(self, sources: Optional[pathlib.Path] = None) -> None:
