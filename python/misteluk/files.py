@@ -5,6 +5,7 @@ import contextlib
 import errno
 import io
 import os
+import select
 from typing import IO, Any, BinaryIO, Iterator, NoReturn, TextIO, Tuple, Type, cast
 
 from .errors import SaveFault, needed
@@ -124,8 +125,7 @@ def whole_text(path: Path) -> "Iterator[TextIO]":
 
 def keep_folder(folder: str) -> None:
     """Puts on the disk which files a folder has: else the old one may be there again behind a crash."""
-    opened = os.open(folder, os.O_RDONLY | os.O_DIRECTORY)
-    try:
-        os.fsync(opened)
-    finally:
-        os.close(opened)
+    # (Functions in C give the descriptor to an object that closes it, wherever an interrupt comes; an `int` closes none.)
+    (opened,) = map(select.epoll.fromfd, map(os.open, (folder,), (os.O_RDONLY | os.O_DIRECTORY,)))
+    with opened:
+        os.fsync(opened.fileno())

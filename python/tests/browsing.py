@@ -15,6 +15,10 @@ from pages import CHROMIUM
 from support import as_soon_as
 
 
+# What stays in a window, which is then nobody else's.
+LEFT_BEHIND = {"Emulation.setEmulatedMedia", "Page.addScriptToEvaluateOnNewDocument"}
+# How long a look at a page is put off, in seconds, that is waited for longer.
+SELDOM = 0.05
 # Counts a picture's pixels.
 PIXELS = """(async () => {
     const image = new Image();
@@ -51,6 +55,7 @@ class Chromium:
         os.close(told[1])
         self._out, self._in = os.fdopen(asked[1], "wb", buffering=0), os.fdopen(told[0], "rb", buffering=0)
         self._number, self._left = 0, b""
+        self.free: List[Tuple[str, str]] = []  # (windows that nobody has, each a context and its page)
         atexit.register(self.close)
 
     @classmethod
@@ -103,18 +108,28 @@ class Browser:
     def __init__(self, options: Sequence[str] = ()) -> None:
         self._chromium = Chromium.of("--window-size=1280,900", *options)
         self.logged: List[str] = []
+        self._is_plain = True
+        if self._chromium.free:
+            self._context, self._page = self._chromium.free.pop()
+        else:
+            self._open()
+
+    def _open(self) -> None:
         self._context = self._call("Target.createBrowserContext")["browserContextId"]
-        target = self._call("Target.createTarget", url="about:blank", browserContextId=self._context)["targetId"]
+        # (one that comes to the front takes twice as long, and what is seen is the same; its focus it must be told)
+        target = self._call("Target.createTarget", url="about:blank", browserContextId=self._context, background=True)["targetId"]
         self._page = self._call("Target.attachToTarget", targetId=target, flatten=True)["sessionId"]
         self._call("Runtime.enable")
         self._call("Log.enable")
+        self._call("Emulation.setFocusEmulationEnabled", enabled=True)
 
     def _call(self, method: str, **given: Any) -> Dict[str, Any]:
+        self._is_plain = self._is_plain and method not in LEFT_BEHIND
         return self._chromium.call(method, given, self._page, self.logged)
 
     def go(self, url: str) -> None:
         self._call("Page.navigate", url=url)
-        as_soon_as(lambda: self.see("document.readyState") == "complete")
+        as_soon_as(lambda: self.see("document.readyState") == "complete", seldom=SELDOM)
 
     def see(self, expression: str) -> Any:
         """What an expression of JavaScript gives."""
@@ -130,7 +145,7 @@ class Browser:
         def is_so() -> bool:
             found[:] = [self.see(expression)]
             return bool(found[0])
-        as_soon_as(is_so)
+        as_soon_as(is_so, seldom=SELDOM)
         return found[0]
 
     def size(self, width: int, height: int, is_phone: bool = False) -> None:
@@ -149,5 +164,15 @@ class Browser:
         pathlib.Path(path).write_bytes(base64.b64decode(found["data"]))
 
     def close(self) -> None:
+        """Ends it. Its window is kept for another one, with nothing left in it: a new one takes a second of a processor."""
+        if self._is_plain and self._page:
+            self.see("try { sessionStorage.clear(); localStorage.clear() } catch { 0 }")
+            self.go("about:blank")
+            self._call("Page.resetNavigationHistory")
+            self._call("Emulation.clearDeviceMetricsOverride")
+            self._call("Network.clearBrowserCookies")
+            self._call("Log.clear")
+            self._chromium.free.append((self._context, self._page))
+            return
         self._page = None
         self._call("Target.disposeBrowserContext", browserContextId=self._context)

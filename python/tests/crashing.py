@@ -12,6 +12,7 @@ import subprocess
 import sys
 import time
 
+from forking import Python
 from journaled import Model, batch, put, told
 from support import HERE
 
@@ -36,9 +37,8 @@ def shim_in(room):
 
 def child(path, *words, **shim):
     """A process that feeds the store of a file until it is killed."""
-    return subprocess.Popen([sys.executable, HERE / "journaled.py", str(path), *map(str, words)], stdout=subprocess.PIPE,
-                            stderr=subprocess.PIPE, start_new_session=True,
-                            env={**os.environ, "PYTHONDONTWRITEBYTECODE": "1", **{it: str(value) for it, value in shim.items()}})
+    return Python([HERE / "journaled.py", path, *words], stdout=subprocess.PIPE, stderr=subprocess.PIPE, start_new_session=True,
+                  env={**os.environ, "PYTHONDONTWRITEBYTECODE": "1", **{it: str(value) for it, value in shim.items()}})
 
 
 def acknowledged(process, seconds):

@@ -9,6 +9,7 @@ import random
 import signal
 import sys
 import warnings
+from unittest import mock
 
 from support import HERE, kill, row
 
@@ -16,6 +17,8 @@ import misteluk
 from misteluk import Degree, Store
 
 PACKAGE = f"{HERE.parent}/misteluk/"
+# Its files, and what Python writes for its classes, as a dataclass's `__eq__`.
+OF_PACKAGE = (PACKAGE, "<string>")
 EDGES = {("l", "a", "b"): (5, 1, 1), ("l", "b", "c"): (7, 1, 1)}
 DEGREES = {"a": Degree(1, 0, 5), "b": Degree(1, 1, 7), "c": Degree(0, 1, 0)}
 # How many places of a call are tried, how many of those at its end, and how many may go wrong before a test ends.
@@ -46,7 +49,7 @@ def at_place(wanted, call, of="opcode"):
 
     def begin(frame, event, _):
         code, is_quiet, last = frame.f_code, False, 0
-        if not code.co_filename.startswith(PACKAGE):
+        if not code.co_filename.startswith(OF_PACKAGE):
             return None
         steps = STEPS.setdefault(code, code.co_code)
 
@@ -106,6 +109,11 @@ def places(make, call, is_right, most=MOST_PLACES):
         if is_over and at > counts[1] or len(wrong) == MOST_WRONG:
             return counts[1], wrong
     raise AssertionError
+
+
+def one_wrong():
+    """Entered where a fault is planted: the first place at which it makes a call go wrong is enough."""
+    return mock.patch(f"{__name__}.MOST_WRONG", 1)
 
 
 class Scene:

@@ -6,11 +6,11 @@ import json
 import os
 import pathlib
 import subprocess
-import sys
 import unittest
 from typing import Any, Dict, NamedTuple, Optional
 
 from described import wrong
+from forking import Python
 from support import HERE, IN_PROCESS, IS_SERVED, Case, optional
 
 import misteluk
@@ -69,8 +69,8 @@ class ServeCase(Case):
     def command(self, *words: str, **how: Any) -> "subprocess.Popen[str]":
         """`misteluk serve` as a process, which is killed at the end."""
         env = {**os.environ, "PYTHONPATH": str(HERE.parent)}
-        done = subprocess.Popen([sys.executable, "-m", "misteluk", "serve", *words], stdout=subprocess.PIPE,
-                                stderr=subprocess.PIPE, text=True, env=env, **how)
+        done = Python(["-m", "misteluk", "serve", *words], stdout=subprocess.PIPE, stderr=subprocess.PIPE, text=True, env=env,
+                      **how)
         self.addCleanup(done.communicate)
         self.addCleanup(done.kill)
         return done

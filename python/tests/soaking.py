@@ -12,11 +12,11 @@ import random
 import socket
 import sqlite3
 import subprocess
-import sys
 import threading
 import time
 from contextlib import closing
 
+from forking import Python
 from support import HERE
 
 from misteluk import Store
@@ -98,10 +98,9 @@ class Served:
     def begin(self):
         """Begins it, and gives how long that took."""
         begun = time.monotonic()
-        words = [sys.executable, "-m", "misteluk", "serve", str(self.path), "--listen", f"127.0.0.1:{self.port}", "--history",
-                 str(HISTORY)]
-        self.process = subprocess.Popen(words, stdout=subprocess.PIPE, stderr=subprocess.PIPE, text=True,
-                                        env={**os.environ, "PYTHONPATH": str(HERE.parent)})
+        words = ["-m", "misteluk", "serve", str(self.path), "--listen", f"127.0.0.1:{self.port}", "--history", str(HISTORY)]
+        self.process = Python(words, stdout=subprocess.PIPE, stderr=subprocess.PIPE, text=True,
+                              env={**os.environ, "PYTHONPATH": str(HERE.parent)})
         said = self.process.stdout.readline()
         assert "serves" in said, self.process.stderr.read()
         return time.monotonic() - begun

@@ -64,15 +64,15 @@ def feed_of(data: Any, **options: Any) -> Any:
     return ReadAs(**options).feed(data)
 
 
-def as_soon_as(is_so: Callable[[], object], seconds: float = 120.0) -> None:
-    """Waits until that is so, and looks more and more seldom: a look may cost a request. A busy machine may take long; what never
-    comes fails."""
+def as_soon_as(is_so: Callable[[], object], seconds: float = 120.0, seldom: float = 0.01) -> None:
+    """Waits until that is so, and looks more and more seldom: a look may cost a request, or a browser's work. A busy machine may
+    take long; what never comes fails."""
     end, pause = time.monotonic() + seconds, 0.001
     while not is_so():
         if time.monotonic() > end:
             raise AssertionError(f"what is waited for didn't come within {seconds:g} s")
         time.sleep(pause)
-        pause = min(1.3 * pause, 0.01)
+        pause = min(1.3 * pause, seldom)
 
 
 class Case(unittest.TestCase):

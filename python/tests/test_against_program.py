@@ -313,13 +313,15 @@ class Both:
 
 class Comparison(Case):
     def play(self, seed, steps=STEPS):
-        """What differed in a play, in which all that is held is asked now and then."""
+        """What differed in a play, in which all that is held is asked now and then, up to the first time that something did."""
         both = Both(seed)
         self.addCleanup(both.end)
         for at in range(steps):
             both.step()
             if at % 2 or at == steps - 1:
                 both.ask_all(str(self.room / "edges.csv"))
+            if both.differ:
+                break
         return both.differ
 
     def test_answers_are_those_of_the_program(self):

@@ -84,7 +84,7 @@ class Copies(Case):
         put = copying._put
         for name, fault in (("_put", recent_alone), ("_items", out_of_order), ("_put_loop", lambda *_: None)):
             with self.subTest(name), mock.patch.object(copying, name, fault):
-                self.assertGreater(sum(map(self.differ, range(4))), 0)
+                self.assertTrue(any(map(self.differ, range(4))))
 
     def opened_with(self, content, blocks):
         """What an engine of so many blocks has that begins with a content as version 7; and whether insertions had batches."""

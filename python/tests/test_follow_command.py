@@ -7,13 +7,13 @@ import re
 import signal
 import struct
 import subprocess
-import sys
 import termios
 import time
 import unittest
 from contextlib import redirect_stderr, redirect_stdout
 from unittest import mock
 
+from forking import Python
 from support import HERE, Case, as_soon_as
 from test_following import Model, some_rows, text_of
 
@@ -32,9 +32,9 @@ def is_read(pipe):
 class FollowCommand(Case):
     def start(self, file, *words, by=("-m", "misteluk"), **options):
         """The command, which reads what it follows from a pipe."""
-        command = [sys.executable, *by, "follow", str(file), *OF_ROWS, *words]
         pipe = subprocess.PIPE
-        process = subprocess.Popen(command, **{"stdin": pipe, "stdout": pipe, "stderr": pipe, "cwd": HERE.parent, **options})
+        process = Python([*by, "follow", str(file), *OF_ROWS, *words],
+                         **{"stdin": pipe, "stdout": pipe, "stderr": pipe, "cwd": HERE.parent, **options})
         self.addCleanup(self.end, process)
         return process
 
@@ -48,9 +48,9 @@ class FollowCommand(Case):
 
     def run_it(self, text, *words):
         """The status, the lines and what is told on standard error, of a feed that ends."""
-        done = subprocess.run([sys.executable, "-m", "misteluk", "follow", "-", *OF_ROWS, *words], input=text, timeout=60,
-                              text=True, stdout=subprocess.PIPE, stderr=subprocess.PIPE, cwd=HERE.parent)
-        return done.returncode, done.stdout.splitlines(), done.stderr
+        process = self.start("-", *words, text=True)
+        out, err = process.communicate(text, 60)
+        return process.returncode, out.splitlines(), err
 
     def test_lines(self):
         text = "a,b,1,10\na,c,2,11\nc,d,3,12\nx,y,5,bad\na,b,4,13\n"

@@ -382,8 +382,9 @@ class Following(Case):
             """That it is given is noted before it is."""
             call(*given)
             return iter(())
-        with mock.patch.object(following, "noting", early), mock.patch.dict(os.environ, {"MISTELUK_INTERRUPTS": "all"}):
-            self.assertGreater(len(self.places()[1]), 0)
+        with mock.patch.object(following, "noting", early), mock.patch.dict(os.environ, {"MISTELUK_INTERRUPTS": "all"}), \
+                interrupting.one_wrong():
+            self.assertEqual(len(self.places()[1]), 1)
 
     def test_an_edge_list(self):
         path = self.file("list.txt", "# edges\n1 2 7\n2\t3\t8\n")

@@ -5,7 +5,7 @@ Each test is made again with a fault that is planted, and has to find it.
 import unittest
 from unittest import mock
 
-from interrupting import places
+from interrupting import one_wrong, places
 from support import Case, kill
 
 from misteluk import Columns, Store, ledger, survey
@@ -110,8 +110,8 @@ class Loads(Case):
 
     def test_places_find_a_fault(self):
         """One to plant: nobody looks what became of a batch whose call was interrupted."""
-        with mock.patch.object(ledger.Ledger, "_land", lambda _: None):
-            self.assertGreater(len(self.places("add", Empty.load, Empty)[1]), 0)
+        with mock.patch.object(ledger.Ledger, "_land", lambda _: None), one_wrong():
+            self.assertEqual(len(self.places("add", Empty.load, Empty)[1]), 1)
 
         def twice(self, batch, collect, feed=None):
             """Another: what an interrupt broke off is applied again."""
@@ -120,8 +120,8 @@ class Loads(Case):
             except KeyboardInterrupt:
                 return right(self, batch, collect, feed)
         right = ledger.Ledger.apply
-        with mock.patch.object(ledger.Ledger, "apply", twice):
-            self.assertGreater(len(self.places("add")[1]), 0)
+        with mock.patch.object(ledger.Ledger, "apply", twice), one_wrong():
+            self.assertEqual(len(self.places("add")[1]), 1)
 
 
 if __name__ == "__main__":

@@ -13,9 +13,8 @@ import warnings
 import weakref
 from unittest import mock
 
-import interrupting
 from asking import NO_ANSWERS, ROWS, calls, plain
-from interrupting import CALLS, EDGES, KNOWN, Scene, after, elsewhere, handler, interrupt_in_a_call, places
+from interrupting import CALLS, EDGES, KNOWN, Scene, after, elsewhere, handler, interrupt_in_a_call, one_wrong, places
 from modelled import Model
 from support import Case, kill
 
@@ -39,8 +38,8 @@ class Interrupts(Case):
         return places(scene, CALLS[name], lambda scene: after(name, scene))
 
     def find_a_fault(self, name, scene=Scene):
-        """Of a call in which one is planted: one place at which it goes wrong is enough."""
-        with mock.patch.object(interrupting, "MOST_WRONG", 1):
+        """Of a call in which one is planted."""
+        with one_wrong():
             self.assertEqual(len(self.places(name, scene)[1]), 1)
 
     def test_each_call(self):
@@ -236,8 +235,9 @@ class Questions(Case):
                 self.kept.all = self._read(self._view(scope))
             return self.kept.all
         for name, of, planted in (("cores", "_table", early), ("levels", "_table", early), ("edges", "edges", empty)):
-            with self.subTest(name), mock.patch.object(held.LibraryVersion, of, planted), mock.patch.dict(os.environ, ALL):
-                self.assertGreater(len(self.places(name)[1]), 0)
+            with self.subTest(name), mock.patch.object(held.LibraryVersion, of, planted), mock.patch.dict(os.environ, ALL), \
+                    one_wrong():
+                self.assertEqual(len(self.places(name)[1]), 1)
 
     def test_each_call_is_interrupted(self):
         """No call of a store or a session is left out, here or in the tests that are named."""

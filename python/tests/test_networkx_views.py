@@ -80,7 +80,7 @@ class Beside(Case):
                 ("count", lambda read: count(read) + 1, ("size", False)),
                 ("nodes", lambda read: dict(list(read._nodes.items())[::-1]), ("nodes", True))):
             with self.subTest(name=name), mock.patch.object(graphs.Read, name, wrong):
-                self.assertIn(method, [it for seed in range(4) for it in self.play(seed)])
+                self.assertTrue(any(method in self.play(seed) for seed in range(4)))
 
 
 @unittest.skipUnless(networkx, "networkx is not there")

@@ -92,10 +92,10 @@ class Saving(Case):
                                    (names.NameTable, "put", lambda *_: None)):
             with self.subTest(name), mock.patch.object(where, name, fault):
                 try:
-                    found = sum(map(self.differ, range(2)))
+                    found = any(map(self.differ, range(2)))
                 except misteluk.StoreError as refused:  # (there are fewer names than the head tells)
                     found = "came of" in str(refused)
-                self.assertGreater(found, 0)
+                self.assertTrue(found)
 
     def test_a_file_by_hand(self):
         """What is written of a small store: units, a text and its id, an edge of two times, a kind and names without edges."""

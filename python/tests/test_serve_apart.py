@@ -143,23 +143,23 @@ class Apart(FollowCase):
         """Another one reads on: each row of the file is in, once, also those that come later."""
         chance = random.Random(7)
         for turn in range(2):
-            path = self.file(f"feed{turn}.csv", "".join(f"s{it % 11},t{it % 13},1,{it}\n" for it in range(200_000)))
+            path = self.file(f"feed{turn}.csv", "".join(f"s{it % 11},t{it % 13},1,{it}\n" for it in range(100_000)))
             self.serve()
             with mock.patch("sys.stderr") as told:
                 reading = self.follow(path)
                 for killed in range(1, 4):
-                    count = chance.randrange(1, 40_000) + self.server.feeding.rate.total
+                    count = chance.randrange(1, 20_000) + self.server.feeding.rate.total
                     as_soon_as(lambda: self.server.feeding.rate.total >= count)
                     os.kill(reading.process.pid, signal.SIGKILL)
                     as_soon_as(lambda: reading.killed == killed)
-                as_soon_as(lambda: self.of_feed()["rows"] == 200_000)
+                as_soon_as(lambda: self.of_feed()["rows"] == 100_000)
                 self.append(path, "ana,bob,5,1\n")
-                as_soon_as(lambda: self.of_feed()["rows"] == 200_001)
+                as_soon_as(lambda: self.of_feed()["rows"] == 100_001)
             said = re.findall(r"was ended by signal 9; (\d+) rows to line (\d+) are in, and another one reads on",
                               self.told_in(told))
             self.assertEqual([rows == line for rows, line in said], [True] * 3)
-            self.assertTrue(all(0 < int(rows) < 200_000 for rows, _ in said))
-            self.assertEqual(sum(row[3] for row in self.rows_of("/v1/edges")), 200_005)
+            self.assertTrue(all(0 < int(rows) < 100_000 for rows, _ in said))
+            self.assertEqual(sum(row[3] for row in self.rows_of("/v1/edges")), 100_005)
             self.assertEqual((self.of_feed()["state"], self.of_feed()["readers_killed"]), ("followed", 3))
             self.assertEqual(len(children(os.getpid())), turn + 1)
 

@@ -11,6 +11,7 @@ import time
 import unittest
 from unittest import mock
 
+from forking import Python
 from serving import FEED, ProcessCase, ServeCase
 from support import HERE, as_soon_as
 
@@ -121,9 +122,9 @@ class Signals(ProcessCase):
     def test_a_question_that_takes_long(self):
         """A thread that is at one delays the end no more than a reader does, before its first bytes and amid them."""
         for part in ("1", "3"):
-            done = subprocess.Popen([sys.executable, "-c", SLOW, part, "--listen", f"unix:{self.path}", "--save", self.saved,
-                                     "--save-every", "1000"], stdout=subprocess.PIPE, stderr=subprocess.PIPE, text=True,
-                                    env={**os.environ, "PYTHONPATH": str(HERE.parent)})
+            done = Python(["-c", SLOW, part, "--listen", f"unix:{self.path}", "--save", self.saved, "--save-every", "1000"],
+                          stdout=subprocess.PIPE, stderr=subprocess.PIPE, text=True,
+                          env={**os.environ, "PYTHONPATH": str(HERE.parent)})
             self.addCleanup(done.communicate)
             self.addCleanup(done.kill)
             self.assertIn("serves", done.stdout.readline())

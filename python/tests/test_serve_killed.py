@@ -3,11 +3,11 @@ import http.client
 import os
 import socket
 import subprocess
-import sys
 import threading
 import unittest
 from unittest import mock
 
+from forking import Python
 from serving import ProcessCase
 from support import HERE, as_soon_as
 
@@ -43,8 +43,8 @@ HEAD = "POST /v1/rows HTTP/1.1\r\nHost: localhost\r\nContent-Type: text/csv\r\nC
 class Killed(ProcessCase):
     def python(self, code, *words, **how):
         """A process of Python's, which is killed at the end."""
-        done = subprocess.Popen([sys.executable, "-c", code, *words], stdout=subprocess.PIPE, text=True,
-                                env={**os.environ, "PYTHONPATH": str(HERE.parent)}, **how)
+        done = Python(["-c", code, *words], stdout=subprocess.PIPE, text=True,
+                      env={**os.environ, "PYTHONPATH": str(HERE.parent)}, **how)
         self.addCleanup(done.communicate)
         self.addCleanup(done.kill)
         return done

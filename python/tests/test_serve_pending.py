@@ -139,7 +139,7 @@ class Pending(ProcessCase):
         self.serve()
         with connect(self.server.url) as store:
             for it in range(4_096):
-                store.add("k", f"{it}-{'x' * 1_100}", f"{it}-{'ü' * 1_100}", 1, 1)
+                store.add("k", f"{it}-{'x' * 700}", f"{it}-{'ü' * 700}", 1, 1)
             self.assertEqual((store.commit().inserted, store.stat().edges), (4_096, 4_096))
 
     def test_an_operation_that_is_too_long(self):

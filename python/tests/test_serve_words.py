@@ -157,6 +157,7 @@ class Words(Case):
 
     def test_a_run(self):
         """All is as it was before when it is over."""
+        gc.unfreeze()
         signals = signal.SIGINT, signal.SIGTERM, signal.SIGHUP
         before = sys.getswitchinterval(), gc.get_freeze_count(), [signal.getsignal(it) for it in signals]
         seen, server, made = self.run_it()

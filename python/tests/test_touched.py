@@ -13,6 +13,7 @@ import unittest
 from collections import Counter, defaultdict
 from itertools import islice
 
+from forking import Python
 from journaled import JournalCase
 from support import HERE, IN_PROCESS, IS_SERVED, TOP, Case, as_soon_as
 
@@ -260,10 +261,10 @@ class Story(Case):
     def killed(self, script, first, last):
         """Whether a run of the script was killed at its last place: else it came to its end."""
         path = self.file("killed.py", DIES.format(first=first, last=last) + script)
-        done = subprocess.run([sys.executable, path], cwd=self.room, env=self.env, stdout=subprocess.DEVNULL,
-                              stderr=subprocess.PIPE, text=True, timeout=60)
-        self.assertIn(done.returncode, (0, -9), done.stderr)
-        return done.returncode == -9
+        with Python([path], cwd=self.room, env=self.env, stdout=subprocess.DEVNULL, stderr=subprocess.PIPE, text=True) as run:
+            told = run.communicate(timeout=60)[1]
+        self.assertIn(run.returncode, (0, -9), told)
+        return run.returncode == -9
 
     def test_killed_at_each_place(self):
         """Of the call, before and behind what it writes: each account is reported once, and none is missed."""

@@ -84,9 +84,9 @@ class Browsers(Case):
         self.assertEqual(seen["order"], ["1", "1", "1", "1", "0", "–"])
 
     def test_no_border_cuts_a_name(self):
-        """Whether it is seen always, while it is pointed at, or bold: of 300 vertices with the widest names most have no room."""
-        store = self.store(*(f"insert k hub {'W' * 20}{it} 1 1" for it in range(299)))
-        page = view(store.open(), "hub", most=300).html
+        """Whether it is seen always, while it is pointed at, or bold: of 150 vertices with the widest names most have no room."""
+        store = self.store(*(f"insert k hub {'W' * 20}{it} 1 1" for it in range(149)))
+        page = view(store.open(), "hub", most=150).html
         look = ("<script>const cut = [];\nfor (const it of document.querySelectorAll('.picture .name')) {\n"
                 "    it.style.fontWeight = 600;\n    const box = it.getBBox();\n"
                 "    const wide = it.ownerSVGElement.viewBox.baseVal.width;\n"
@@ -94,7 +94,7 @@ class Browsers(Case):
                 "const count = document.querySelectorAll('.picture .name').length;\n"
                 "document.body.textContent = JSON.stringify({cut, count});</script>")
         seen = json.loads(self.browse("wide.html", page.replace("</body>", look + "</body>")).see("document.body.textContent"))
-        self.assertEqual((seen["count"], seen["cut"]), (300, []))
+        self.assertEqual((seen["count"], seen["cut"]), (150, []))
 
     def test_a_window_that_narrows(self):
         """Names are larger in a narrow one, and no border cuts them then, whichever way it was before."""

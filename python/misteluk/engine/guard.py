@@ -32,7 +32,8 @@ def noting(call: Callable[..., Any], *given: Any) -> "Iterator[Any]":
         return result
 
     notes that it gives its result, and gives it, and no interrupt comes between: Python looks for signals neither after `in` nor
-    after a name. An interrupt before that leaves it unnoted. A `raise` may stand for the `return`.
+    after a name. An interrupt before that leaves it unnoted. A `raise` may stand for the `return`. The function gives `None`:
+    what else it gave would be compared, perhaps by a method in Python.
     """
     return starmap(call, (given,))
 

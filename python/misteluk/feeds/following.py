@@ -1,6 +1,7 @@
 """A feed that never stops: its rows go in as they come, by time and size, and what wasn't touched for long goes out."""
 from __future__ import annotations
 
+import operator
 import os
 import threading
 import time
@@ -203,7 +204,7 @@ class Following(Iterator[Followed]):
                 self._go_on()
             if not (self._made or self._is_done) and self._source.wait(self._patience(), output):
                 raise BrokenPipeError
-        made, given = self._made[0], noting(self._made.popleft)
+        made, given = self._made[0], noting(operator.delitem, self._made, 0)
         None in given
         return made
 
