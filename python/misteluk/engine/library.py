@@ -272,13 +272,15 @@ class LibraryEngine(Desks):
             del self._held[version.slot]
         self._settle()
 
-    @alone
     def pair(self, earlier: LibraryVersion, later: LibraryVersion) -> Optional[Owned]:
-        """Two versions, to be asked what became of edges from one to the other; `None` where the desk doesn't hold both, or the
-        second one is the earlier, or a batch waits at the desk."""
-        opening = self._settle()
+        """Two versions of one desk, to be asked what became of edges from one to the other; `None` where the desk doesn't hold both,
+        or the second one is the earlier, or a batch waits at the desk. It waits for another thread's call. A handler of a signal
+        may close what it likes meanwhile, and may ask this amid another call: the desk then says that it isn't held."""
         pair = Owned(interface.Diff(), self.handles.diffs)
-        code = self.library.desk_diff(opening.desk.raw, earlier.hold.raw, later.hold.raw, pair.raw)
+        with self._guard.lock:
+            if self._guard.is_elsewhere:
+                return None
+            code = self.library.desk_diff(earlier.desk.raw, earlier.hold.raw, later.hold.raw, pair.raw)
         if code in (Code.NO_HANDLE, Code.NO_SEAT, Code.BAD_NUMBER):
             return None
         check(code)
