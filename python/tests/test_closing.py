@@ -15,7 +15,7 @@ from misteluk import SessionClosed
 
 # Whose steps are those of a call, and for how many seconds threads ask.
 OURS = tuple(f"/misteluk/{it}.py" for it in ("engine/held", "engine/walked", "serve/client", "session", "graphs", "walks"))
-A_WHILE = 1.0
+A_WHILE = 2.0
 # The calls that keep what they were told, or go by what is kept.
 OF_ALL = "degrees", "edges", "in_edges of a kind", "out_edges", "in_edges", "levels", "edge count"
 OF_OTHERS = ("to_pandas", "to_networkx", "to_igraph", "to_scipy", "view", "to_csv")

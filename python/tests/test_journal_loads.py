@@ -242,7 +242,7 @@ import sys
 from misteluk import Store
 store = Store(sys.argv[1])
 print("begins", flush=True)
-store.load([(f"a{it % 9_973}", f"b{it % 997}", 1, it) for it in range(70_000)], by="set")
+store.load([(f"a{it % 9_973}", f"b{it % 997}", 1, it) for it in range(150_000)], by="set")
 print("in", flush=True)
 sys.stdin.read()
 """
@@ -260,15 +260,15 @@ sys.stdin.read()
             return said + process.stdout.read()
 
     def test_a_killed_load(self):
-        """Nothing of its two batches is there, or all; and all where that was told."""
-        chance, edges = random.Random(3), len({(it % 9_973, it % 997) for it in range(70_000)})
-        for seconds in (None, *(chance.uniform(0.1, 0.7) for _ in range(4))):
+        """Nothing of it is there, or all; and all where that was told."""
+        chance, edges = random.Random(3), len({(it % 9_973, it % 997) for it in range(150_000)})
+        for seconds in (None, *(chance.uniform(0.2, 1.5) for _ in range(4))):
             path = str(self.room / f"{seconds}.db")
             is_told = b"in\n" in self.killed(path, seconds)
             self.assertEqual(check(path).faults, [])
             with Store(path) as store:
                 found = store.stat().version, store.stat().edges
-            self.assertIn(found, [(2, edges)] if is_told else [(0, 0), (2, edges)])
+            self.assertIn(found, [(3, edges)] if is_told else [(0, 0), (3, edges)])
             self.assertTrue(is_told or seconds is not None)
 
 

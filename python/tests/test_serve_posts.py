@@ -135,7 +135,7 @@ class Readers(unittest.TestCase):
     def test_many_values(self):
         """Arrays that aren't rows have so many values, however they are nested."""
         for data in (filled('{"ends": [', "5,", "5]}", 1 << 18), filled('{"ends": [', "[[],[],[[]]],", "5]}", 1 << 20),
-                     filled('{"ends": {', '"a":{},', '"b":5}}', 1 << 20)):
+                     filled('{"ends": {', '"a":{},', '"b":5}}', 1 << 21)):
             self.assertRaisesRegex(bodies.TooLarge, "at most 65,536 values: ask several times", bodies.loaded, data)
         for part, count in (("5,", 65_535), ('["k","a","b"],', 65_535)):
             self.assertEqual(len(bodies.loaded(b'{"ends": [%s5]}' % (part.encode() * count))["ends"]), 65_536)

@@ -273,9 +273,9 @@ class LibraryEngine(Desks):
         self._settle()
 
     def pair(self, earlier: LibraryVersion, later: LibraryVersion) -> Optional[Owned]:
-        """Two versions of one desk, to be asked what became of edges from one to the other; `None` where the desk doesn't hold both,
-        or the second one is the earlier, or a batch waits at the desk. It waits for another thread's call. A handler of a signal
-        may close what it likes meanwhile, and may ask this amid another call: the desk then says that it isn't held."""
+        """Two versions of one desk, to be asked what became of edges from one to the other; `None` where the desk doesn't hold
+        both, or the second one is the earlier, or a batch waits at the desk. It waits for another thread's call. A handler of a
+        signal may close what it likes meanwhile, and may ask this amid another call: the desk then says that it isn't held."""
         pair = Owned(interface.Diff(), self.handles.diffs)
         with self._guard.lock:
             if self._guard.is_elsewhere:
