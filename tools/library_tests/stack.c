@@ -95,9 +95,24 @@ static void edges(void)
     at = 0;
     code = misteluk_version_edges(&version, &every, &at, &into, &number);
 }
+static misteluk_diff diff;
+static misteluk_version before;
+static misteluk_hold earlier;
+static uint8_t states[8];
+static int64_t weights_before[8], weights_after[8];
+static uint64_t times_told[4][8];
+static misteluk_diff_columns changes = {sizeof changes, states, 8, kinds, 8, sources, 8, targets, 8, weights_before, 8, times_told[0],
+    8, times_told[1], 8, weights_after, 8, times_told[2], 8, times_told[3], 8};
+static void desk_diff(void) { code = misteluk_desk_diff(&desk, &earlier, &hold, &diff); }
+static void diff_edges(void)
+{
+    at = 0;
+    code = misteluk_diff_edges(&diff, &every, &at, &changes, &number);
+}
+static void diff_free(void) { misteluk_diff_free(&diff); }
 static void free_all(void)
 {
-    misteluk_version_free(&version), misteluk_version_free(&copy), misteluk_batch_free(&batch), misteluk_batch_free(&filled),
+    misteluk_version_free(&version), misteluk_version_free(&copy), misteluk_version_free(&before), misteluk_batch_free(&batch), misteluk_batch_free(&filled),
         misteluk_desk_free(&desk);
 }
 
@@ -175,6 +190,7 @@ int main(void)
     for (int it = 0; it < BATCH - 1; it++)
         batch_insert();
     measure("batch_insert", batch_insert);
+    code = misteluk_desk_hold(&desk, &before, &earlier);
     measure("desk_begin", begin);
     measure("desk_cancel", cancel);
     begin();
@@ -182,6 +198,9 @@ int main(void)
     measure("desk_apply", apply);
     measure("desk_stat", stat);
     measure("desk_hold", hold_last);
+    measure("desk_diff", desk_diff);
+    measure("diff_edges", diff_edges);
+    measure("diff_free", diff_free);
     measure("version_clone", clone_it);
     measure("version_size", size_of);
     measure("version_vertex", vertex);
