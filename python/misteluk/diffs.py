@@ -23,7 +23,7 @@ def between(earlier: Session[W, T], later: Session[Any, Any], kind: Optional[str
 
 def _at_once(earlier: Session[W, T], later: Session[W, T], kind: Optional[str], since: Moment,
              until: Moment) -> Optional[Diff[W, T]]:
-    """The same where the engine tells it, which reads no edge that stayed as it was."""
+    """The same where the engine tells it, which reads no row that no batch has touched since the earlier version."""
     scope = [it._scope("edges", kind, since, until)[0] for it in (earlier, later)][0]
     try:
         found = earlier._held.differences(later._held, scope)
