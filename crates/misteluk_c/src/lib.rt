@@ -16,8 +16,6 @@ mod inserting;
 mod opening;
 mod phases;
 mod searching;
-#[cfg(test)]
-mod tests;
 mod texts;
 mod versions;
 mod walking;
