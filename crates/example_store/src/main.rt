@@ -2,12 +2,12 @@
 //! proof takes most of a minute before its first function.
 #![tactic(auto)]
 
-mod lent;
+mod owned;
 mod shared;
 
 use anyhow::Result;
 
 fn main(rt: HostRuntime) -> Result<()> {
-    lent::run(&rt)?;
+    owned::run(&rt)?;
     shared::run(&rt, rt.alloc())
 }

@@ -14,6 +14,11 @@ pub use Rattle.graph_version.specs.InEdges
 pub use Rattle.block_reclamation.specs.Board
 pub use Rattle.block_reclamation.specs.Copies
 pub use Rattle.block_reclamation.specs.Status
+pub use Rattle.owned_desk.specs.Machine
+pub use Rattle.owned_desk.specs.Owned
+pub use Rattle.owned_desk.specs.OwnedReady
+pub use Rattle.version_diff.specs.Differences
+pub use Rattle.version_diff.specs.Pairs
 pub use Rattle.version_shelf.specs.Shelves
 pub use Rattle.stream_store.specs.Applying
 pub use Rattle.stream_store.specs.Configs

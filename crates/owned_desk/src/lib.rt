@@ -11,6 +11,7 @@ mod applying;
 mod errors;
 mod kept;
 mod laws;
+mod opening;
 mod owned;
 mod owned_ready;
 mod pairs;

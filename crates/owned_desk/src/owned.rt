@@ -41,7 +41,7 @@ use std::sync::Arc;
 /// collection keeps the blocks of the versions held.
 ///
 /// ```
-/// let mut desk = OwnedDesk::over(Desk::open(alloc, 1_024)?);
+/// let mut desk = OwnedDesk::open(alloc, Limits::standard(), 1_024)?;
 /// desk.apply(Arc::new(alloc, batch)?)?;
 /// let held = desk.hold()?;
 /// let collected = desk.collect();
