@@ -57,7 +57,7 @@ def put_beside(library):
 
 def with_exports(text):
     """A lowered program in LLVM's words as a library: each function that C may call gets its own name, which can be seen from
-    outside, and `main` can't be. `rt try` lowers what a program or a test reaches, so `tests/library` has to call each of them."""
+    outside, and `main` can't be. `rt try` lowers what a program or a test reaches, so tests/library has to call each of them."""
     found = EXPORTED.findall(text)
     names = {name for _, _, name, _ in found}
     if names != declared():
