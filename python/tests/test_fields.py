@@ -9,7 +9,7 @@ from unittest import mock
 from support import Case, optional
 
 from misteluk import Columns, survey
-from misteluk.feeds import delimited
+from misteluk.feeds import delimited, feed
 from misteluk.values import fields
 
 COLUMNS = Columns(1, 2, weight=3, time=4)
@@ -32,7 +32,7 @@ class OfAFile(Case):
     def read(self, text, many, at_once):
         path = self.room / "rows.csv"
         path.write_bytes(text.encode())
-        with mock.patch.object(fields, "MANY", many), mock.patch.object(delimited, "AT_ONCE", at_once):
+        with mock.patch.object(fields, "MANY", many), mock.patch.object(feed, "AT_ONCE", at_once):
             try:
                 return told(survey(path, by="add", columns=COLUMNS, batch=7, progress=False))
             except Exception as fault:
@@ -85,7 +85,7 @@ class OfAFile(Case):
     def rows(self, text, sign, at_once):
         path = self.room / "rows.csv"
         path.write_bytes(text.encode())
-        with mock.patch.object(delimited, "AT_ONCE", at_once):
+        with mock.patch.object(feed, "AT_ONCE", at_once):
             return list(delimited.delimited(path, Columns(1, 2), delimiter=sign).rows)
 
     def by_csv(self, text, sign):

@@ -55,8 +55,9 @@ class Apart(Iterator[Applied]):
 
     def __init__(self, following: Following) -> None:
         self.store, self.name, self._terms = following.store, following.name, following._terms
-        self._recipe, self._begin, self._file = following.recipe, following._begin, os.dup(following._descriptor)
-        self._is_input, self._rejects, self._mark = following._descriptor == 0, following.rejects, following.mark
+        source = following._source
+        self._recipe, self._begin, self._file = following.recipe, source.begin, os.dup(source.descriptor)
+        self._is_input, self._rejects, self._mark = source.descriptor == 0, following.rejects, following.mark
         self.last_bad: Optional[Rejected] = None
         self.place = following.resumed
         following.close()

@@ -124,7 +124,7 @@ def read(following: Following, outbox: Outbox) -> None:
     except (StoreError, ValueError, OSError) as fault:
         outbox.end(word=getattr(fault, "word", "") or type(fault).__name__, text=str(fault))
     else:
-        outbox.end(is_half=following._ended_half)
+        outbox.end(is_half=following._source.ended_half)
 
 
 def run(following: Following, outbox: Outbox) -> None:
@@ -156,5 +156,5 @@ def main(said: int, descriptor: int) -> None:
         # (by a thread that no signal interrupts, whose steps take less time)
         threading.Thread(target=run, args=(following, outbox), daemon=True).start()
         for word in iter(lambda: file.read(1), b""):
-            following._end() if word == AT_ITS_END else following.stop()
+            following._source.end() if word == AT_ITS_END else following.stop()
     os._exit(0)
