@@ -83,7 +83,7 @@ def at_line(wanted, call):
     return at_place(wanted, call, "line") == wanted
 
 
-def places(make, call, is_right, most=MOST_PLACES):
+def places(make, call, is_right, most=MOST_PLACES, at_the_end=AT_THE_END):
     """How many places a call has, and at which of them an interrupt makes it go wrong, which `is_right` tells. So many are tried,
     by chance, and those at its end; all of them where MISTELUK_INTERRUPTS is "all". Another seed is said there too."""
     said = os.environ.get("MISTELUK_INTERRUPTS", "7")
@@ -94,8 +94,8 @@ def places(make, call, is_right, most=MOST_PLACES):
         counts.append(at_place(0, lambda: call(scene)))
         scene.end()
     tried = range(1, counts[1] + 1)
-    if said != "all" and counts[1] > most + AT_THE_END:
-        tried = [*sorted(random.Random(said).sample(tried[:-AT_THE_END], most)), *tried[-AT_THE_END:]]
+    if said != "all" and counts[1] > most + at_the_end:
+        tried = [*sorted(random.Random(said).sample(tried[:-at_the_end], most)), *tried[-at_the_end:]]
     for at in itertools.chain(tried, itertools.count(counts[1] + 1)):
         scene = make()
         try:

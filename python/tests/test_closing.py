@@ -15,7 +15,7 @@ from misteluk import SessionClosed
 
 # Whose steps are those of a call, and for how many seconds threads ask.
 OURS = tuple(f"/misteluk/{it}.py" for it in ("engine/held", "engine/walked", "serve/client", "session", "graphs", "walks"))
-A_WHILE = 2.0
+A_WHILE = 1.0
 # The calls that keep what they were told, or go by what is kept.
 OF_ALL = "degrees", "edges", "in_edges of a kind", "out_edges", "in_edges", "levels", "edge count"
 OF_OTHERS = ("to_pandas", "to_networkx", "to_igraph", "to_scipy", "view", "to_csv")
@@ -128,7 +128,7 @@ class Meanwhile:
 class Closing(Meanwhile, Case):
     def test_a_session_is_closed_at_each_step(self):
         store = self.store(*ROWS, seats=3)
-        for by_instruction, step, names in ((False, 1, OF_ALL), (True, 1, OF_ALL), (False, 2, CALLS.keys() - OF_ALL)):
+        for by_instruction, step, names in ((True, 1, OF_ALL), (False, 2, CALLS.keys() - OF_ALL)):
             found = self.wrong(lambda: (store, store.open()), lambda store, session: session.close(), by_instruction,
                                step * (7 if IS_SERVED else 1), names)
             self.assertEqual(found, [])
