@@ -36,7 +36,6 @@ OF_RUN: Dict[str, Any] = {"limits": OF_SCRIPT, "most_blocks": records.MOST_BLOCK
 
 
 def form_of_feed(words: argparse.Namespace) -> Dict[str, Any]:
-    """What is said of the feed."""
     return {"by": words.by, "units": Units(words.weight_scale, words.times, rounding=words.rounding), "names": words.names,
             "format": words.format, "columns": columns_of(words), "delimiter": words.delimiter, "header": words.header,
             "encoding": words.encoding, "decimal": words.decimal, "dates": words.dates, "third": words.third}
@@ -54,7 +53,6 @@ def window(words: argparse.Namespace) -> Dict[str, Any]:
 
 
 def run_load(words: argparse.Namespace) -> int:
-    """Loads a file and asks."""
     if words.interactive and words.file == STANDARD_INPUT:
         raise ValueError("--interactive reads standard input, which is the file here")
     if (words.save or words.edges) and (words.script or words.dry_run):
@@ -82,7 +80,6 @@ def run_restore(words: argparse.Namespace) -> int:
 
 
 def run_at(words: argparse.Namespace) -> int:
-    """Asks a version that a store's file has."""
     must_be_place(words.save)
     must_be_place(words.edges)
     with Store.at(words.file, version=words.version, time=words.time) as store:
@@ -129,7 +126,6 @@ def tell(words: argparse.Namespace, found: Survey) -> None:
 
 
 def answer(words: argparse.Namespace, session: Session[Any, Any]) -> Iterator[str]:
-    """The lines of what is asked for."""
     questions: List[Question] = [*words.ask]
     questions += [Question(f"levels from {shown(it)}", "levels", (it,)) for it in words.levels]
     for it in questions:

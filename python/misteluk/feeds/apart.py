@@ -102,7 +102,6 @@ class Apart(Iterator[Applied]):
             self._tell(AT_ITS_END)
 
     def _give_back(self) -> None:
-        """Closes its ends of the pipes."""
         ends, self._say, self._out = (self._say, self._out), -1, -1
         for it in ends:
             if it >= 0:
@@ -174,7 +173,6 @@ class Apart(Iterator[Applied]):
         LOG.warning(f"{ended}, and another one reads on")
 
     def _applied(self, parcel: Parcel) -> Applied:
-        """Applies a batch."""
         head, ledger = parcel.head, self.store._ledger
         place = FeedPlace(*head["place"])._replace(rejects=0 if self._rejects is None else self._rejects.size)
         kind_text, kind_ends, text, ends, codes, kinds, sources, targets, weights, times = parcel.columns
@@ -222,7 +220,6 @@ class Apart(Iterator[Applied]):
 
     @property
     def told(self) -> str:
-        """How far it is."""
         return f"{self.place.rows} rows to line {self.place.line} are in"
 
     def stop(self) -> None:

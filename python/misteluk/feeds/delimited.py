@@ -147,7 +147,6 @@ class Picked:
         self.is_first = True
 
     def of_lines(self, lines: range, columns: Sequence[Sequence[str]]) -> Block:
-        """The block of a file's lines, by their columns."""
         came = Came(self.form, lambda at: [it[at] for it in columns], range(len(lines)))
         return self.of_columns(lines, columns)._replace(came=came)
 

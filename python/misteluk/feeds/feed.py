@@ -80,12 +80,10 @@ class Block(NamedTuple):
 
 
 def rows_of(block: Block) -> Iterator[Row]:
-    """The rows of a block."""
     return cast("Iterator[Row]", zip(*block[:6]))
 
 
 def came_of(block: Block) -> Came:
-    """The rows of a block as they came."""
     if isinstance(block.came, Came):
         return block.came
     columns = [block[2], block[3], block[1], *block[4:6]]
@@ -93,7 +91,6 @@ def came_of(block: Block) -> Came:
 
 
 def part_of(block: Block, rows: slice) -> Block:
-    """Some rows of a block."""
     return Block(*(it[rows] for it in block))
 
 
@@ -114,7 +111,6 @@ class Feed(NamedTuple):
     rows: Iterable[Row]
 
     def blocks(self) -> Iterator[Block]:
-        """The rows in blocks."""
         if isinstance(self.rows, Table):
             return self.rows.blocks()
         return (Block(*zip(*rows)) for rows in parts_of(self.rows, ROWS_AT_ONCE))
@@ -176,7 +172,6 @@ def turned(feed: Feed, *, names: str = "plain") -> Feed:
 
 
 def feed_name(path: Path) -> str:
-    """What a file is called."""
     return ITS_NAME if path == STANDARD_INPUT else os.fspath(path)
 
 
@@ -241,7 +236,6 @@ class Rows:
 
 
 def blocks_of_file(path: Path, rows: Rows, encoding: str) -> Iterator[Block]:
-    """The rows of a whole file."""
     with open_text(path, encoding) as file:
         for text in iter(lambda: file.read(AT_ONCE) + file.readline(), ""):
             yield from rows.take(text, False)

@@ -78,7 +78,6 @@ class Following(Iterator[Followed]):
 
     @property
     def _place(self) -> FeedPlace:
-        """How far it is in."""
         begin, rejects = self._incoming.begin_before(self._done), 0 if self.rejects is None else self.rejects.size
         return FeedPlace(self._in, self._line, self._newest, self._source.place, self._source.mark, self._done, self._count.bad,
                          bool(self._blocks) or self._incoming.is_half, *begin, rejects)
@@ -111,7 +110,6 @@ class Following(Iterator[Followed]):
 
     @property
     def _terms(self) -> Terms:
-        """Those of the feed."""
         return self._count.terms
 
     @property
@@ -130,7 +128,6 @@ class Following(Iterator[Followed]):
 
     @property
     def _told(self) -> str:
-        """How far it is."""
         bad = f"; {self._count.bad} bad rows passed over" if self._count.bad and self._pace.skip_bad else ""
         return f"{self.name}: {self._in} rows to line {self._line} are in{bad}"
 

@@ -73,7 +73,6 @@ class Growing:
 
     @property
     def descriptor(self) -> int:
-        """The descriptor of what is read."""
         return self._file
 
     @property
@@ -224,7 +223,6 @@ class Growing:
             raise FeedFault(f"{self.name} was cut to {size} bytes, and {at} were read of it: what it has now isn't known")
 
     def close(self) -> None:
-        """Gives the file back."""
         self._raw.close()
         bell, self._bell, self._cord = (self._bell, self._cord), -1, -1
         for it in bell:

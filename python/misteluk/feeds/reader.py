@@ -128,7 +128,6 @@ def read(following: Following, outbox: Outbox) -> None:
 
 
 def run(following: Following, outbox: Outbox) -> None:
-    """Reads, and ends the process."""
     status = 1
     try:
         read(following, outbox)
