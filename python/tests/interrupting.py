@@ -1,7 +1,6 @@
 """What interrupts calls of a store, and what they are."""
 import contextlib
 import dis
-import functools
 import gc
 import itertools
 import os
@@ -279,20 +278,3 @@ def handler(of_alarms):
     finally:
         signal.setitimer(signal.ITIMER_REAL, 0)
         signal.signal(signal.SIGALRM, before)
-
-
-# A store and a session that a fork has from its parent.
-KNOWN = []
-
-
-def elsewhere():
-    """What calls say in a fork."""
-    (store, session), told = KNOWN, []
-    insert = functools.partial(store.insert, "l", "a", "c")
-    for call in (store.stat, store.commit, session.degrees, insert, session.close, store.close):
-        try:
-            call()
-            told.append("closed")
-        except misteluk.StoreError as fault:
-            told.append("another process's" if "another process's" in str(fault) else str(fault))
-    return told
