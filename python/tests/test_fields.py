@@ -94,9 +94,9 @@ class OfAFile(Case):
         return [(reader.line_num, "link", *[*row, ""][:2], "1", "0") for row in reader if row]
 
     def test_any_file_is_read_as_csv_reads_it(self):
-        count, quick = self.differ(range(2_000))
+        count, quick = self.differ(range(600))
         self.assertEqual(count, 0)
-        self.assertGreater(quick, 200)
+        self.assertGreater(quick, 60)
 
     def test_faults_of_quotes_are_found(self):
         def always(numpy, data, begins, ends):
