@@ -88,7 +88,6 @@ class Read:
         return Edges(edges.kinds, edges.names, replace(edges.units, decimals="float"), found)
 
     def count(self) -> int:
-        """How many edges there are."""
         return sum(self._held.degrees(self.scope)[0])
 
 

@@ -229,7 +229,6 @@ class Ledger:
 
     @alone
     def end(self) -> None:
-        """Takes no more operations."""
         self.is_closed = True
 
     def _fly(self, batch: Operations, collect: bool, of_pending: bool, feed: Optional[Feed] = None) -> Commit:

@@ -103,7 +103,6 @@ def save(session: Session[Any, Any], path: Path) -> Saved:
 # What is written.
 
 def _script(head: str, operations: Numbered, size: int) -> bytes:
-    """The whole file; the operations in batches of this size."""
     written = Records(operations)
     batches = (f"{written.text(slice(at, at + size))}commit\ncollect\n" for at in range(0, len(operations.codes), size))
     told = "".join([head, *batches]).encode("ascii")
@@ -128,7 +127,6 @@ def _head(session: Session[Any, Any], content: Content, needed: int) -> str:
 
 
 def _pieces(text: str) -> List[str]:
-    """The text in names."""
     return [text[at:at + records.MOST_NAME] for at in range(0, len(text), records.MOST_NAME)]
 
 
@@ -145,7 +143,6 @@ def is_saved(path: Path) -> bool:
 
 
 def read(path: Path) -> Found:
-    """What a saved file has."""
     with open(path, "rb") as file:
         return found_in(file.read(), os.fspath(path))
 

@@ -71,7 +71,6 @@ class Session(Generic[W, T]):
         return self._held.is_open
 
     def _must_be_open(self) -> None:
-        """Raises `SessionClosed` where the session is closed."""
         if not self.is_open:
             raise SessionClosed(f"the session of version {self.version} is closed")
 
@@ -501,7 +500,6 @@ class Session(Generic[W, T]):
         self.close()
 
     def _repr_html_(self) -> str:
-        """What a notebook shows."""
         told: Dict[str, object] = {"state": "closed"}
         with suppress(SessionClosed):
             self._must_be_open()

@@ -497,7 +497,6 @@ class Store(Uncopied, Opened, Generic[W, T]):
             warnings.warn("a store was let go without close()", ResourceWarning, stacklevel=2)
 
     def _repr_html_(self) -> str:
-        """What a notebook shows."""
         told: Dict[str, object] = {"engine": self._engine.told(), "state": "closed"}
         if not (self._is_closed or self._engine.is_elsewhere):
             it = self.stat()

@@ -2,13 +2,13 @@
 from __future__ import annotations
 
 from array import array
+from collections import Counter
 from typing import TYPE_CHECKING, Any, Dict, Iterable, Optional, Sequence
 
 from .engine.protocol import Denied, must_have_kind
 from .errors import NoVertex
 from .values.answers import OF_FLOWS, Answer, Degree, Flow, Values, degrees
 from .values.diff import Diff
-from .values.fields import numpy_for
 from .values.names import Called, must_be_texts
 from .values.records import MOST_TIME
 from .values.units import Moment
@@ -21,22 +21,12 @@ SOURCE, TARGET, WEIGHT = 1, 2, 3
 
 def counted(ends: array[int], count: int) -> Sequence[int]:
     """How often each number comes, of so many."""
-    numpy = numpy_for(len(ends))
-    if numpy is not None:
-        return array("I", numpy.bincount(numpy.asarray(ends), minlength=count).astype("uint32").tobytes())
-    found = array("I", bytes(4 * count))
-    for at in ends:
-        found[at] += 1
-    return found
+    found = Counter(ends)
+    return array("I", map(found.__getitem__, range(count)))
 
 
 def summed(ends: array[int], weights: array[int], count: int) -> Sequence[int]:
     """The sum of the weights of each number, of so many: the whole sum, however great."""
-    numpy = numpy_for(len(ends))
-    if numpy is not None and max(max(weights), -min(weights)) * len(weights) < 1 << 63:
-        found = numpy.zeros(count, dtype="int64")
-        numpy.add.at(found, numpy.asarray(ends), numpy.asarray(weights))
-        return array("q", found.tobytes())
     sums = [0] * count
     for at, weight in zip(ends, weights):
         sums[at] += weight

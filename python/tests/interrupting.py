@@ -1,7 +1,6 @@
 """What interrupts calls of a store, and what they are."""
 import contextlib
 import dis
-import functools
 import gc
 import itertools
 import os
@@ -83,7 +82,7 @@ def at_line(wanted, call):
     return at_place(wanted, call, "line") == wanted
 
 
-def places(make, call, is_right, most=MOST_PLACES):
+def places(make, call, is_right, most=MOST_PLACES, at_the_end=AT_THE_END):
     """How many places a call has, and at which of them an interrupt makes it go wrong, which `is_right` tells. So many are tried,
     by chance, and those at its end; all of them where MISTELUK_INTERRUPTS is "all". Another seed is said there too."""
     said = os.environ.get("MISTELUK_INTERRUPTS", "7")
@@ -94,8 +93,8 @@ def places(make, call, is_right, most=MOST_PLACES):
         counts.append(at_place(0, lambda: call(scene)))
         scene.end()
     tried = range(1, counts[1] + 1)
-    if said != "all" and counts[1] > most + AT_THE_END:
-        tried = [*sorted(random.Random(said).sample(tried[:-AT_THE_END], most)), *tried[-AT_THE_END:]]
+    if said != "all" and counts[1] > most + at_the_end:
+        tried = [*sorted(random.Random(said).sample(tried[:-at_the_end], most)), *tried[-at_the_end:]]
     for at in itertools.chain(tried, itertools.count(counts[1] + 1)):
         scene = make()
         try:
@@ -279,20 +278,3 @@ def handler(of_alarms):
     finally:
         signal.setitimer(signal.ITIMER_REAL, 0)
         signal.signal(signal.SIGALRM, before)
-
-
-# A store and a session that a fork has from its parent.
-KNOWN = []
-
-
-def elsewhere():
-    """What calls say in a fork."""
-    (store, session), told = KNOWN, []
-    insert = functools.partial(store.insert, "l", "a", "c")
-    for call in (store.stat, store.commit, session.degrees, insert, session.close, store.close):
-        try:
-            call()
-            told.append("closed")
-        except misteluk.StoreError as fault:
-            told.append("another process's" if "another process's" in str(fault) else str(fault))
-    return told

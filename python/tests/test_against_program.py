@@ -11,7 +11,7 @@ from unittest import mock
 from asking import BECOME, NEED, NO_ANSWERS, awaited
 from graphs import KINDS, NAMES
 from harness import LAST, Refused, Run
-from support import IS_SERVED, Case, kill, optional, row
+from support import IN_PROCESS, IS_SERVED, Case, kill, optional, row
 
 import misteluk
 from misteluk import Answer, AsyncSession, Diff, Edges, Session
@@ -335,6 +335,7 @@ class Comparison(Case):
         self.assertEqual(questions - set(SAID), {"get_edges"})  # (which is asked with each edge)
         self.assertEqual(set(SAID) - questions, {"among", "either_way", "edge_count", "frame", "to_csv", *BECOME})
 
+    @unittest.skipIf(IS_SERVED, IN_PROCESS)
     def test_a_planted_difference_is_found(self):
         right = {it: getattr(Session, it) for it in ("levels", "edges", "in_edges", "successors", "diff", "degrees", "graph")}
         for name, planted in (
@@ -347,7 +348,8 @@ class Comparison(Case):
                 ("graph", lambda session, kind=None, *given: right["graph"](session, None, *given)),
                 ("diff", lambda session, later, *given: right["diff"](later, session, *given))):
             with self.subTest(name), mock.patch.object(Session, name, planted):
-                self.assertTrue(any(self.play(seed, 4) for seed in range(12)))
+                needed = NEEDS.get(name, "misteluk")  # (a package that not every Python has)
+                self.assertTrue(not optional(needed) or any(self.play(seed, 4) for seed in range(12)))
 
     def test_the_run_ends_as_it_is_to(self):
         run = Run()

@@ -6,14 +6,13 @@ import unittest
 from array import array
 from collections import defaultdict
 from decimal import Decimal
-from unittest import mock
 
 from support import IN_PROCESS, IS_SERVED, Case, optional
 
 import misteluk
 from misteluk import Columns, Degree, Flow, Limits, Units, errors, totals
 
-numpy, pandas = map(optional, ("numpy", "pandas"))
+pandas = optional("pandas")
 MONTHS, PEOPLE = range(1, 7), [f"p{it}" for it in range(9)]
 OF_BANK = Columns("from", "to", weight="amount", time="day", default_kind="transfer")
 
@@ -177,30 +176,19 @@ class Among(Case):
         self.refused(errors.NoKind, "'sea'", lambda: session.degrees("sea", among=["a"]))
         self.refused(TypeError, "7", lambda: session.degrees(among=["a", 7]))
 
-    def test_by_arrays_as_by_loops(self):
-        """Of many edges, with and without numpy; a sum beyond what 64 bits hold is whole too."""
+    def test_many_edges(self):
+        """A sum beyond what 64 bits hold is whole too."""
         random_ = random.Random(3)
-        rows = {(f"v{random_.randrange(60)}", f"v{random_.randrange(60)}"): random_.randrange(-999, 999) for _ in range(1_500)}
+        rows = {(f"v{random_.randrange(60)}", f"v{random_.randrange(60)}"): random_.randrange(-999, 999) for _ in range(600)}
         store = self.store()
         store.load([(*ends, weight) for ends, weight in rows.items()], by="set")
         some = [f"v{it}" for it in range(0, 60, 2)]
         inner = {ends: weight for ends, weight in rows.items() if set(ends) <= set(some)}
-        wanted = {it: Degree(sum(ends[0] == it for ends in inner), sum(ends[1] == it for ends in inner),
-                             sum(weight for ends, weight in inner.items() if ends[0] == it)) for it in some}
         with store.open() as session:
-            self.assertEqual(session.degrees(among=some), wanted)
-            with mock.patch.object(totals, "numpy_for", lambda count: None):
-                self.assertEqual(session.degrees(among=some), wanted)
-        self.assertEqual(list(totals.summed(array("I", [1]) * 512, array("q", [1 << 54]) * 512, 2)), [0, 1 << 63])
-        great = (1 << 63) - 1
-        for most, least in ((1 << 40, -5), (1 << 40, -(1 << 40)), (great, -5), (great, -great), (5, -great)):
-            ends = array("I", [random_.randrange(4) for _ in range(1_000)])
-            weights = array("q", [random_.choice([most, most - 1, least]) for _ in ends])
-            sums = [sum(weight for it, weight in zip(ends, weights) if it == at) for at in range(5)]
-            for numpy_for in (totals.numpy_for, lambda count: numpy, lambda count: None):
-                with mock.patch.object(totals, "numpy_for", numpy_for):
-                    self.assertEqual(list(totals.summed(ends, weights, 5)), sums)
-                    self.assertEqual(list(totals.counted(ends, 5)), [list(ends).count(at) for at in range(5)])
+            self.assertEqual(session.degrees(among=some), {it: Degree(
+                sum(ends[0] == it for ends in inner), sum(ends[1] == it for ends in inner),
+                sum(weight for ends, weight in inner.items() if ends[0] == it)) for it in some})
+        self.assertEqual(totals.summed(array("I", [1]) * 512, array("q", [1 << 54]) * 512, 2), [0, 1 << 63])
 
 
 if __name__ == "__main__":

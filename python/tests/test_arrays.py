@@ -45,15 +45,6 @@ class Tables(Case):
             copy = pickle.loads(pickle.dumps(it))
             self.assertEqual((copy, copy.version, copy.request, copy.value), (it, it.version, it.request, it.value))
 
-    def test_equal_values_keep_their_order(self):
-        made = random.Random(4)
-        rows = {f"v{it}": made.randrange(9) for it in range(300)}
-        wanted = sorted(rows.items(), key=lambda row: row[1], reverse=True)
-        self.assertEqual(misteluk.Answer(rows).top(40), wanted[:40])
-        store = self.store(*(f"insert k {name} t{at} 1 1" for name, count in rows.items() for at in range(count)))
-        degrees = store.open().degrees()
-        self.assertEqual(degrees.top(50), sorted(degrees.items(), key=lambda row: row[1].out, reverse=True)[:50])
-
     @unittest.skipUnless(numpy and pandas, "numpy and pandas are not there")
     def test_arrays_and_frames(self):
         session = self.store(*ROADS, units=Units(weight_scale=10, decimals="float")).open()
@@ -253,20 +244,6 @@ class EdgesOfAVersion(Case):
         other = self.store(*ROADS[::-1]).open()  # (another store, with other numbers)
         self.assertFalse(first.diff(other))
         self.assertRaisesRegex(ValueError, "other units", first.diff, self.store(units=Units(weight_scale=10)).open())
-
-    def test_a_difference_of_each_field(self):
-        """An edge that differs in one field alone has changed, and nothing else did."""
-        before = {"weight": 5, "first": 2, "recent": 6}
-        for field in (None, *before):
-            after = {it: value + (it == field) for it, value in before.items()}
-            earlier, later = (self.store(
-                "insert road ulm kiel 1 1", f"insert road kiel bonn {it['weight']} {it['first']}",
-                f"insert road kiel bonn {it['weight']} {it['recent']}").open() for it in (before, after))
-            wanted = [] if field is None else [Changed("road", "kiel", "bonn", Edge(**before), Edge(**after))]
-            with self.subTest(field=field):
-                diff = earlier.diff(later)
-                self.assertEqual((diff.changed, diff.counts(), bool(diff)), (
-                    wanted, {"gone": 0, "new": 0, "changed": len(wanted)}, bool(wanted)))
 
     def test_the_edges_with_the_greatest_values(self):
         """Equal ones stand in the order of the edges."""

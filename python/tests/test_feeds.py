@@ -15,7 +15,7 @@ import misteluk
 from misteluk import Columns, Commit, Edge
 from misteluk.feeds.delimited import delimited
 from misteluk.feeds.feed import Feed
-from misteluk.feeds import feed as feeds, loading
+from misteluk.feeds import feed as feeds
 from misteluk.values.units import Units
 
 TRANSFERS = "from,to,amount,when\nana,funnel,980,1\nben,funnel,950,1\nana,funnel,20,5\n"
@@ -285,14 +285,6 @@ class Loads(Case):
             misteluk.survey(Feed("f", [(1, "k", "a", "b", "1", "0")] * 9000), by="add", progress=True)
         if optional("tqdm"):
             self.assertIn("reading f: 9000 records", told.getvalue())
-
-    def test_progress_without_tqdm(self):
-        with mock.patch.dict("sys.modules", {"tqdm": None}), redirect_stderr(io.StringIO()) as told:
-            bar = loading.Progress("reading f", 10, True)
-            bar.told -= 1
-            bar.step(5)
-            bar.end()
-        self.assertRegex(told.getvalue(), r"reading f: 5 of 10 records, \d+ a second")
 
 
 class Absent(Case):

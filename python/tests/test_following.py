@@ -144,9 +144,9 @@ class Following(Case):
             next(it)
             it.stop()
             rows = [step.rows for step in it][-1:] or [100]
-            self.assertEqual((it._half_line, it._has_unread, rows[0]), (False, True, text[:2_001].count(b"\n")))
+            self.assertEqual((it._half_line, it._source.has_unread, rows[0]), (False, True, text[:2_001].count(b"\n")))
             it.close()
-            self.assertEqual(it._has_unread, False)
+            self.assertEqual(it._source.has_unread, False)
         os.close(write)
 
     def test_expiry(self):
@@ -255,7 +255,7 @@ class Following(Case):
         (step,) = followed
         self.assertEqual((step.rows, step.bad, step.line), (3, 2, 5))
         self.assertEqual(followed._told, f"{followed.name}: 3 rows to line 5 are in; 2 bad rows passed over")
-        self.assertEqual([(it.place.line, it.word, it.field) for it in followed._faults],
+        self.assertEqual([(it.place.line, it.word, it.field) for it in followed._count.faults],
                          [(3, "BadName", "target"), (4, "BadWeight", "amount")])
         followed = self.follow(self.file("good.csv", "a,b,1,1\n"), until_end=True, skip_bad=True)
         self.assertEqual(([it.bad for it in followed], followed._told), ([0], f"{followed.name}: 1 rows to line 1 are in"))

@@ -49,7 +49,7 @@ class Awaited(SourceCase):
         bell = {source._bell: select.POLLIN}
         for seconds in (None, 5.0, 0.0):
             self.assertEqual(self.waited(source, seconds), (bell, 0.0, False))
-        while source.lines():
+        while source.text():
             pass
         for is_left, most in ((False, 100.0), (True, 500.0)):
             source.is_left = is_left
@@ -63,7 +63,7 @@ class Awaited(SourceCase):
         for seconds, wanted in ((None, None), (0.25, 250.0), (0.0, 0.0), (-1.0, 0.0)):
             self.assertEqual(self.waited(source, seconds), (both, wanted, False))
         into.close()
-        self.assertEqual((source.lines(), source.is_at_end), ([], True))
+        self.assertEqual((source.text(), source.is_at_end), ("", True))
         self.assertEqual(self.waited(source, 0.25), ({source._bell: select.POLLIN}, 250.0, False))
 
     def test_who_reads_the_output(self):

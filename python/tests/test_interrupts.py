@@ -5,7 +5,6 @@ of the store. Each test is made again with a fault that is planted, and has to f
 """
 import functools
 import gc
-import multiprocessing
 import os
 import signal
 import unittest
@@ -14,7 +13,7 @@ import weakref
 from unittest import mock
 
 from asking import NO_ANSWERS, ROWS, calls, plain
-from interrupting import CALLS, EDGES, KNOWN, Scene, after, elsewhere, handler, interrupt_in_a_call, one_wrong, places
+from interrupting import CALLS, EDGES, Scene, after, handler, interrupt_in_a_call, one_wrong, places
 from modelled import Model
 from support import Case, kill
 
@@ -118,27 +117,6 @@ class Interrupts(Case):
                 gc.collect()
         self.assertEqual(set(os.listdir("/proc/self/fd")), descriptors)
 
-    def test_a_fork_leaves_the_store_alone(self):
-        store = self.store("insert l a b 5 1")
-        session = store.open()
-        KNOWN[:] = store, session
-        self.addCleanup(KNOWN.clear)
-        with multiprocessing.get_context("fork").Pool(2) as pool:
-            self.assertEqual(pool.map(abs, [-1, 2]), [1, 2])
-            self.assertEqual(pool.apply(elsewhere), ["another process's"] * 4 + ["closed", "closed"])
-            self.assertEqual((store.stat().edges, session.edge("l", "a", "b")), (1, (5, 1, 1)))
-            store.close()
-
-    def test_a_fork_that_ends_ends_no_store(self):
-        store = self.store("insert l a b 5 1")
-        child = os.fork()
-        if child == 0:
-            del store
-            gc.collect()
-            os._exit(0)
-        os.waitpid(child, 0)
-        self.assertEqual(store.stat().edges, 1)
-
     def test_three_hundred(self):
         model = Model(self.room)
         self.addCleanup(model.end)
@@ -210,7 +188,8 @@ class Questions(Case):
         scene = Asked(call, given, None)
         wanted = plain(scene.ask()), plain(scene.session.edges()), plain(scene.session.degrees())
         scene.end()
-        return places(lambda: Asked(call, given, wanted), Asked.ask, Asked.is_right, 5)
+        # (a question notes nothing at its end)
+        return places(lambda: Asked(call, given, wanted), Asked.ask, Asked.is_right, 5, 2)
 
     def test_each(self):
         for name, *_ in calls(""):

@@ -85,7 +85,7 @@ class Seeks(FollowCase):
             self.addCleanup(files.close)
             for count in counts:
                 with files.next() as following:
-                    following.on_left = following._end
+                    following.on_left = following._source.end
                     while following._place.rows < count:
                         next(following)
                     self.assertEqual(list(following) if count != counts[-1] else [], [])

@@ -36,10 +36,16 @@ def told(call):
 
 
 def answers():
-    """What a session answers to calls, of which it keeps something."""
-    session = SESSION[0]
-    return [told(it) for it in (session.degrees, session.edges, lambda: session.in_edges("b"),
-                                lambda: session.out_edges("a"), lambda: session.edge("k", "a", "b"))]
+    """What a session and its store answer to calls."""
+    session, store = SESSION[0], SESSION[0].store
+    return [told(it) for it in (session.degrees, session.edges, lambda: session.in_edges("b"), lambda: session.out_edges("a"),
+                                lambda: session.edge("k", "a", "b"), store.stat, store.commit,
+                                lambda: store.insert("k", "a", "c"))]
+
+
+def close():
+    SESSION[0].close()
+    SESSION[0].store.close()
 
 
 class InProcess(Case):
@@ -165,32 +171,16 @@ class InProcess(Case):
         store.commit()
         self.assertEqual((store.pending, store.stat().edges), (0, 800))
 
-    def test_a_session_that_is_closed_while_it_is_asked(self):
-        """What is asked then is answered, or told that the session is closed; and its handles are freed behind that."""
-        for _ in range(30):
-            store = self.store(*(f"insert k s{it} t 1 1" for it in range(50)))
-            session, told = store.open(), []
-
-            def ask(session=session, told=told):
-                try:
-                    while True:
-                        told.append(len(session.cores()))
-                except misteluk.SessionClosed:
-                    told.append("closed")
-            thread = threading.Thread(target=ask)
-            thread.start()
-            session.close()
-            thread.join()
-            self.assertEqual((told[-1], set(told[:-1]) <= {51}), ("closed", True))
-
     def test_a_fork(self):
+        """It is told by each call that the store is another process's, and ends nothing there."""
         store = self.store("insert k a b 1 1")
         SESSION[:] = [store.open()]
         self.addCleanup(SESSION.clear)
         self.assertNotIn("another process's", " ".join(answers()))
         with multiprocessing.get_context("fork").Pool(1) as pool:
             self.assertEqual([it for it in pool.apply(answers) if "another process's" not in it], [])
-        self.assertEqual(SESSION[0].edge("k", "a", "b"), Edge(1, 1, 1))
+            pool.apply(close)
+        self.assertEqual((store.stat().edges, SESSION[0].edge("k", "a", "b")), (1, Edge(1, 1, 1)))
 
     def test_a_fork_makes_its_own(self):
         """And frees nothing of what its parent has."""

@@ -61,19 +61,6 @@ class Notations(Case):
         with self.assertRaisesRegex(misteluk.BadRows, "123.0004 .in milliseconds; it has more than microseconds"):
             self.store().load([("a", "b", 1, "1709596800123.0004")], by="add", dates="milliseconds")
 
-    def test_a_file_of_another_country(self):
-        """In cents and seconds: 5 March 2024 begins 1709596800 seconds behind 1970, noon of it 43,200 later."""
-        path = self.room / "bank.csv"
-        path.write_bytes("von;nach;Betrag;am\nM\u00fcller;b;1.234,50;05.03.2024\na;b;-0,05;05.03.2024 12:00\n".encode("cp1252"))
-        columns = Columns("von", "nach", weight="Betrag", time="am")
-        found = misteluk.survey(str(path), by="add", columns=columns, encoding="cp1252", decimal=",", dates="dd.mm.yyyy",
-                                units=Units(weight_scale=100), names="escape")
-        lines = b"".join(it.text for it in found.parts).decode().splitlines()
-        self.assertEqual([it.split(",")[4] for it in lines], ["123450", "-5"])
-        seconds = [int(it.split(",")[5]) for it in lines]
-        self.assertEqual((seconds[0] % 1709596800, seconds[1] - seconds[0]), (0, 43_200 * (seconds[0] // 1709596800)))
-        self.assertIn("M%C3%BCller", lines[0])
-
     def test_what_there_is_not(self):
         for told, options in (("decimal is '.' or ','", {"decimal": ";"}), ("dates is 'dd.mm.yyyy'", {"dates": "d.m.y"}),
                               ("there is no encoding 'utf-9'", {"encoding": "utf-9"})):

@@ -33,7 +33,6 @@ class Missing(Case):
         self.assertEqual([objects.text_of(it) for it in ("nan", "None", 0, 0.0, 7.0, 7.5, False)],
                          ["nan", "None", "0", "0", "7", "7.5", "False"])
 
-
     def test_the_row_of_what_is_no_value(self):
         """Where columns aren't taken whole, since one has values of several types."""
         for size in (1, 2, 1_024):
@@ -308,11 +307,6 @@ class Rows(Case):
         self.rows("1 link a b 5 0\n2 link c d 6 0", [{"from": "a", "to": "b", "w": 5}, {"to": "d", "from": "c", "w": 6}],
                   columns=columns)
         self.rows("1 link a b 5 0\n2 link c d 6 0", {"w": [5, 6], "to": ["b", "d"], "from": ["a", "c"]}, columns=columns)
-
-    def test_a_load_of_tuples(self):
-        store = self.store()
-        store.load([("a", "b", 1), ("a", "b", 2)], by="add")
-        self.assertEqual(store.open().edge("link", "a", "b"), Edge(3, 0, 0))
 
     def bad(self, wanted: list, data, **options) -> None:
         with self.assertRaises(misteluk.BadRows) as told:

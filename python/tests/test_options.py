@@ -99,9 +99,12 @@ WRONG = {"": "the following arguments are required: command", "lode f": "invalid
          "view f -o p --around a --at 3 --at-line 3": "not allowed with argument"}
 
 
+PARSER = make_parser()
+
+
 class Options(Case):
     def parsed(self, words):
-        return vars(make_parser().parse_args(words.split()))
+        return vars(PARSER.parse_args(words.split()))
 
     def test_where_nothing_is_said(self):
         for words, wanted in USUAL.items():
@@ -115,7 +118,7 @@ class Options(Case):
 
     def test_columns(self):
         words = "load f --add --source a --target 2 --kind b --weight 3 --time c --default-kind d"
-        self.assertEqual(columns_of(make_parser().parse_args(words.split())), Columns("a", 2, "b", 3, "c", "d"))
+        self.assertEqual(columns_of(PARSER.parse_args(words.split())), Columns("a", 2, "b", 3, "c", "d"))
 
     def test_what_is_refused(self):
         for words, told in WRONG.items():

@@ -116,23 +116,22 @@ class Installs(Case):
         self.compiled = {"PYTHONPYCACHEPREFIX": str(self.room / "compiled"), "PYTHONDONTWRITEBYTECODE": ""}
 
     def program(self, place: str, library: str = find_library()) -> pathlib.Path:
-        """A script that runs this program, at that place of the copy; as the clone's it says where the library is, or nothing."""
+        """A script that runs this program, at that place of the copy; as the clone's it says where the library is."""
         path = self.top / place
         path.parent.mkdir(exist_ok=True)
-        told = f"echo '{library}'" if library else "exit 1"
-        path.write_text(f'#!/bin/sh\n[ "$*" = "library --where" ] && {{ {told}; exit; }}\nexec {find_program()} "$@"\n')
+        path.write_text(f'#!/bin/sh\n[ "$*" = "library --where" ] && {{ echo "{library}"; exit; }}\nexec {find_program()} "$@"\n')
         path.chmod(0o755)
         if place.startswith("bin/"):
             (self.top / "lib").mkdir(exist_ok=True)
             shutil.copy(library, self.top / "lib")
         return path
 
-    def install(self, *words, env=None, apart=False) -> None:
-        """Without a network: no place of packages is asked; `apart` with an environment for the build, as pip does by itself."""
-        how = () if apart else ("--no-build-isolation",)
-        done = run(sys.executable, "-m", "pip", "install", "--no-index", "--quiet", "--disable-pip-version-check", "--no-compile",
-                   "--target", self.there, *how, *words, cwd=self.room, env=env)
+    def install(self, *words, env=None) -> str:
+        """Without a network: no place of packages is asked. Gives what is said."""
+        done = run(sys.executable, "-m", "pip", "install", "--no-index", "-v", "--disable-pip-version-check", "--no-compile",
+                   "--target", self.there, *words, cwd=self.room, env=env)
         self.assertEqual(done.returncode, 0, done.stdout)
+        return done.stdout
 
     def unpack(self, sources: Optional[pathlib.Path] = None) -> None:
         """As `install` of the copy or other sources, where it isn't pip that is tried: what their wheel has, and nothing else."""
@@ -154,30 +153,21 @@ class Installs(Case):
     def listing(self) -> list:
         return sorted(str(it) for it in self.top.rglob("*"))
 
-    def test_pip_leaves_the_clone_as_it_was(self):
+    def test_a_clone_where_nothing_is_proved(self):
+        """pip leaves it as it was, and says that what it installs is for this machine; the command runs."""
         self.program("stinger")
         before = self.listing()
-        self.install(self.top / "python", apart=True)
+        said = self.install(self.top / "python")
         self.assertEqual(self.listing(), before)
+        self.assertIn(f"this wheel has no program, but runs {self.top}/stinger: it is for this machine", said)
+        (about,) = self.there.glob("*.dist-info")
+        self.assertIn("+clone.", about.name)
+        self.assertIn(f"Tag: py3-none-linux_{os.uname().machine}\n", (about / "WHEEL").read_text())
         told = self.ask("from misteluk import Store; from misteluk.engine.finding import find_program as f; "
                         "print(f(), Store().stat().free, sep=chr(10))")
         self.assertIn(f"{self.there}/misteluk/bin/stinger\n", told)
         self.assertTrue(told.endswith("65536\n"), told)
         self.assertEqual((self.there / "misteluk/lib/libmisteluk.so").read_bytes(), pathlib.Path(find_library()).read_bytes())
-
-    def test_a_wheel_of_a_clone_where_nothing_is_proved(self):
-        self.program("stinger")
-        done = run(sys.executable, "-m", "pip", "wheel", "--no-index", "--disable-pip-version-check", "-v", "--wheel-dir",
-                   self.there, self.top / "python", cwd=self.room)
-        self.assertEqual(done.returncode, 0, done.stdout)
-        name = next(it.name for it in self.there.glob("*.whl"))
-        self.assertIn("+clone.", name)
-        self.assertTrue(name.endswith(f"-py3-none-linux_{os.uname().machine}.whl"), name)
-        self.assertIn(f"this wheel has no program, but runs {self.top}/stinger: it is for this machine", done.stdout)
-
-    def test_the_command(self):
-        self.program("stinger")
-        self.install(self.top / "python")
         env = {it: value for it, value in os.environ.items() if not it.startswith("MISTELUK_")} | {"PYTHONPATH": str(self.there)}
         told = run(self.there / "bin/misteluk", "load", "-", "--set", "--source", "1", "--target", "2", cwd="/", env=env,
                    input="a,b\n").stdout
@@ -209,15 +199,14 @@ class Installs(Case):
         self.assertEqual((told[-1], is_well), ("no store can be made: no room", False))
 
     def test_the_doctor_tells_what_was_proved(self):
-        """By the archive's page, which an install writes a note by; and nothing where there is none."""
-        for page, wanted in ((None, "not known to be proved"), ("# **UNPROVED.**", "not known to be proved"),
-                             ("# Proved", "proved (its archive's PROVED.md says by what)")):
+        """By the archive's page, which an install writes a note by."""
+        program = self.program("bin/stinger")
+        self.assertTrue(made(str(program)).endswith("not known to be proved"))
+        for page, wanted, here in (("# **UNPROVED.**", "not known to be proved", "not proved ("),
+                                   ("# Proved", "proved (its archive's PROVED.md says by what)", "proved (")):
             with self.subTest(page):
-                program = self.program("bin/stinger")
-                if page is not None:
-                    (self.top / "PROVED.md").write_text(page)
-                    wanted_here = "not proved (" if "UN" in page else "proved ("
-                    self.assertTrue(made(str(program)).startswith(wanted_here))
+                (self.top / "PROVED.md").write_text(page)
+                self.assertTrue(made(str(program)).startswith(here))
                 self.unpack()
                 found = self.doctor()
                 self.assertIn(f"program stinger: {self.there}/misteluk/bin/stinger; {self.proved(wanted)}", found)
@@ -228,22 +217,19 @@ class Installs(Case):
         return told if told.startswith("proved") else f"compiled, or of elsewhere: {told}"
 
     def test_without_a_library(self):
-        """In a clone where it isn't made, or isn't of the sources as they are, and in an archive that lacks it: pip says what to
-        do, and installs nothing. It does once the library is there."""
+        """In a clone where it isn't made, or isn't of the sources as they are, and in an archive that lacks it: what pip shows
+        says what to do, and there is no wheel. There is once the library is there."""
         by_hand = run(sys.executable, "-c", "import wheels; wheels.build_wheel('.')", cwd=self.top / "python")
         self.program("bin/stinger")
         shutil.rmtree(self.top / "lib")
         of_archive = run(sys.executable, "-c", "import wheels; wheels.build_wheel('.')", cwd=self.top / "python")
-        self.program("stinger", library="")
-        by_pip = run(sys.executable, "-m", "pip", "install", "--no-index", "--disable-pip-version-check", "--target", self.there,
-                     self.top / "python", cwd=self.room)
-        for done in (by_hand, of_archive, by_pip):
+        for done in (by_hand, of_archive):
             self.assertNotEqual(done.returncode, 0)
             self.assertIn(f"misteluk: no library of the sources as they are is in {self.top}, and the package needs it: run "
                           "./stinger library there, which makes it, and then pip install ./python; without rt, install the wheel "
                           "of a release", " ".join(done.stdout.split()))
             self.assertNotIn("Traceback", done.stdout)
-        self.assertEqual([*self.top.rglob("*.whl"), *self.room.glob("there/misteluk")], [])
+        self.assertEqual([*self.top.rglob("*.whl")], [])
         self.program("stinger")
         self.unpack()
         self.assertEqual(self.doctor()[-1], 0)
@@ -286,7 +272,7 @@ class Installs(Case):
 
     def test_a_source_archive_can_be_installed(self):
         name = wheels.build_sdist(str(self.room))
-        self.install(self.room / name, env={**os.environ, "TMPDIR": str(self.strangers())}, apart=True)
+        self.install(self.room / name, env={**os.environ, "TMPDIR": str(self.strangers())})
         self.assertFalse((self.room / "ran").exists())
         self.assertEqual([str(it) for it in self.there.rglob("LICENSE-STRANGE")], [])
         self.assertEqual(self.ask("import misteluk; print(misteluk.__version__)").strip(), misteluk.__version__)

@@ -12,7 +12,7 @@ from decimal import Decimal
 
 from asking import LATER, NEED, NO_ANSWERS, ROWS, awaited, calls, plain
 from serving import ServeCase
-from support import IS_SERVED, Case, optional
+from support import Case, optional
 
 import misteluk
 from misteluk import Units
@@ -166,9 +166,8 @@ class ReadOnly(Asking, Case):
         session.save(self.room / "saved.csv")
         with misteluk.Store.restore(self.room / "saved.csv") as restored:
             self.assertEqual(self.all_told(asked_by(restored.open()), but), wanted)
-        if not IS_SERVED:
-            store.compact(session)
-            self.assertEqual(self.all_told(asked_by(store.open()), but), wanted)
+        store.compact(session)
+        self.assertEqual(self.all_told(asked_by(store.open()), but), wanted)
 
 
 class OfServers(Asking, ServeCase):

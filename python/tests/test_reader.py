@@ -102,7 +102,7 @@ class Sent(Case):
             self.addCleanup(os.close, it)
 
     def following(self, place=PLACE, last_bad=None, **more):
-        return mock.MagicMock(**{"_place": place, "last_bad": last_bad, "_ended_half": True, **more})
+        return mock.MagicMock(**{"_place": place, "last_bad": last_bad, "_source.ended_half": True, **more})
 
     def received(self):
         """What was sent, one after another."""
@@ -223,7 +223,7 @@ class Process(Case):
 
     def test_what_it_is_told(self):
         """It reads on from the place. Each word counts, and with the last it ends: nobody can say anything any more."""
-        begin, end, stop = mock.call._pass_over(PLACE), mock.call._end(), mock.call.stop()
+        begin, end, stop = mock.call._pass_over(PLACE), mock.call._source.end(), mock.call.stop()
         for words, told in ((b"", []), (b"!", [stop]), (b".", [end]), (b".!", [end, stop]), (b"!.", [stop, end])):
             self.assertEqual(self.main(words), [begin, *told])
 

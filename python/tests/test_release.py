@@ -84,7 +84,11 @@ def find_library():
 
 @unittest.skipUnless(IS_REPOSITORY, NO_REPOSITORY)
 class Releases(Case):
-    """Over one copy of this repository without its crates, which is made as it was before each test."""
+    """Over one copy of this repository without its crates, with a change log of which the notes are known; it is made as it was
+    before each test."""
+
+    LOG = (f"# Changelog\n\n## {misteluk.__version__}\n\nThe first: [what breaks](#what-breaks).\n\n### What breaks\n\n"
+           "- See [your limits](docs/PYTHON.md#limits).\n\n## 0.0.1\n\nAn older one.\n")
 
     @classmethod
     def setUpClass(cls):
@@ -96,6 +100,7 @@ class Releases(Case):
             if (TOP / it).is_file() and not it.startswith("crates/"):
                 (cls.top / it).parent.mkdir(parents=True, exist_ok=True)
                 shutil.copy(TOP / it, cls.top / it)
+        (cls.top / "CHANGELOG.md").write_text(cls.LOG)
         run("git", "init", "-q", cwd=cls.top)
 
     def setUp(self):
@@ -115,23 +120,16 @@ class Releases(Case):
     def release(self, *words):
         return run(sys.executable, self.top / "tools/release", "--to", self.room / "made", *words)
 
-    def made(self, ending):
-        """What a release for trying it out makes of the copy as it begins, once for all tests."""
+    def made(self, ending=""):
+        """What a release for trying it out makes of the copy as it begins, once for all tests: the file that ends so, or all."""
         there = self.top.parent / "made"
         if not there.exists():
             done = run(sys.executable, self.top / "tools/release", "--to", there, *self.unproved)
             self.assertEqual(done.returncode, 0, done.stdout)
-        (found,) = there.glob(f"*{ending}")
-        return found
+        return [it for it in there.iterdir() if it.name.endswith(ending)]
 
     def test_an_archive_for_trying_it_out(self):
-        log = (f"# Changelog\n\n## {misteluk.__version__}\n\nThe first: [what breaks](#what-breaks).\n\n### What breaks\n\n"
-               "- See [your limits](docs/PYTHON.md#limits).\n\n## 0.0.1\n\nAn older one.\n")
-        (self.top / "CHANGELOG.md").write_text(log)
-        self.git("commit", "-qam", "a change log of which the notes are known")
-        done = self.release(*self.unproved)
-        self.assertEqual(done.returncode, 0, done.stdout)
-        archive, wheel, notes = map(pathlib.Path, done.stdout.splitlines())
+        (archive,), (wheel,), (notes,) = map(self.made, (".gz", ".whl", ".md"))
         self.assertIn("-UNPROVED-linux-x86_64.tar.gz", archive.name)
         self.assertEqual(self.git("tag", "-l", "v*"), "")
         first = {it: hashlib.sha256(it.read_bytes()).hexdigest() for it in (archive, wheel)}
@@ -139,8 +137,9 @@ class Releases(Case):
             self.assertEqual(run("sha256sum", "-c", f"{it.name}.sha256", cwd=it.parent).returncode, 0)
         self.notes_say_what_was_made(notes.read_text(), first)
         self.leads_nowhere_else(notes.read_text())
-        self.release(*self.unproved)
-        self.assertEqual({it: hashlib.sha256(it.read_bytes()).hexdigest() for it in first}, first)
+        again = self.release(*self.unproved)
+        self.assertEqual([hashlib.sha256(pathlib.Path(it).read_bytes()).hexdigest() for it in again.stdout.splitlines()[:2]],
+                         [*first.values()], again.stdout)
         with tarfile.open(archive) as tar:
             tar.extractall(self.room / "there")
         (there,) = (self.room / "there").iterdir()
@@ -203,7 +202,7 @@ class Releases(Case):
     @unittest.skipUnless(optional("pip"), "pip is not there")
     def test_the_wheel(self):
         """Installed where nothing else is, it has its own program: no path leads to one, nor does a variable."""
-        wheel = self.made(".whl")
+        (wheel,) = self.made(".whl")
         self.assertEqual(wheel.name, f"misteluk-{misteluk.__version__}+unproved-py3-none-linux_x86_64.whl")
         home = self.room / "a home"
         venv.create(home, symlinks=True)
@@ -224,11 +223,11 @@ class Releases(Case):
 
     def test_the_archive_tests_its_own_client(self):
         """By its own python/check, which finds its program, and says what it passes over."""
-        with tarfile.open(self.made(".gz")) as tar:
+        with tarfile.open(*self.made(".gz")) as tar:
             tar.extractall(self.room / "there")
         (there,) = (self.room / "there").iterdir()
         env = {it: value for it, value in os.environ.items() if not it.startswith("MISTELUK_")} | {"PYTHON": sys.executable}
-        done = run(there / "python/check", "records", "release", "tables", env=env)
+        done = run(there / "python/check", "records", "release", env=env)
         self.assertEqual(done.returncode, 0, done.stdout)
         self.assertIn(f" runs {there}/bin/stinger\n", done.stdout)
         self.assertRegex(done.stdout,
@@ -263,7 +262,7 @@ class Releases(Case):
         self.refused("the gate did not pass over this commit: ./check runs it")
         (self.top / "out").mkdir()
         head = self.git("rev-parse", "HEAD")
-        for note in ("0" * 40 + "\nkit-1\n5 minutes\n", f"{head}\n", f"{head}\nkit-1\n", f"{head}\n\n5 minutes\n"):
+        for note in ("0" * 40 + "\nkit-1\n5 minutes\n", f"{head}\nkit-1\n"):
             (self.top / "out/gate_passed").write_text(note)
             self.refused("the gate did not pass over this commit: ./check runs it")
 

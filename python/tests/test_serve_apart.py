@@ -53,7 +53,7 @@ class Readers(unittest.TestCase):
         """Behind the lines that were in before."""
         following, outbox = mock.MagicMock(**{"_place.done": 7}), mock.Mock()
         reader.read(following, outbox)
-        self.assertEqual((outbox.first, outbox.mock_calls), (8, [mock.call.end(is_half=following._ended_half)]))
+        self.assertEqual((outbox.first, outbox.mock_calls), (8, [mock.call.end(is_half=following._source.ended_half)]))
 
 
 class Apart(FollowCase):

@@ -80,12 +80,6 @@ class Stores(Case):
         self.refused(ValueError, "by is for degrees", lambda: components.top(by="weight"))
         self.assertEqual(pickle.loads(pickle.dumps(components)).top(1), [("ana", 6)])
 
-    def test_the_edges_of_a_walk_and_their_weights(self):
-        session = self.store(*FUNNEL).open()
-        walk = session.path("ben", "offshore", edges=True)
-        self.assertEqual([(*ends, edge.weight) for *ends, edge in walk],
-                         [("transfer", "ben", "funnel", 950), ("transfer", "funnel", "offshore", 3850)])
-
     def test_what_a_notebook_shows_of_a_store(self):
         store = self.store("insert k<l a b 5 1", blocks=64)
         session = store.open()
@@ -127,22 +121,6 @@ class Stores(Case):
         session = self.store("insert k ana bob 1 1", "insert k ana cyd 1 5", "insert k dan bob 1 6").open()
         self.assertEqual(session.predecessors("bob", since=5), {"dan": Edge(1, 6, 6)})
         self.assertEqual(session.successors("ana", until=4), {"bob": Edge(1, 1, 1)})
-
-    def test_names_that_look_like_answers(self):
-        store = self.store("insert k error end 1 1", "insert k close stat 2 1", 'insert k a,b "q" 3 1', blocks=16384)
-        session = store.open()
-        self.assertEqual(session.levels("error"), {"error": 0, "end": 1})
-        self.assertEqual(session.components(), {"error": "error", "end": "error", "close": "close", "stat": "close",
-                                                "a,b": "a,b", '"q"': "a,b"})
-        self.assertEqual(session.edge("k", "a,b", '"q"'), Edge(3, 1, 1))
-        self.assertEqual(store.stat(), Stat(1, 6, 3, 16381, 0, 3))
-
-    def test_a_table_has_the_names_of_its_version(self):
-        store = self.store("insert k a b 1 1")
-        session = store.open()
-        self.feed(store, "insert k c d 1 1")
-        self.assertEqual(list(session.degrees()), ["a", "b"])
-        self.assertEqual(session.edge("k", "a", "b"), Edge(1, 1, 1))
 
     def test_an_empty_store(self):
         session = self.store().open()

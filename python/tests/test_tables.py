@@ -135,21 +135,6 @@ class Ties(Case):
     # Of weight 5 are a, c and e; of the first time 2 are b, c and d, and of the recent time 9 are a, d and e.
     ROWS = (("a", 5, 1, 9), ("b", 3, 2, 8), ("c", 5, 2, 7), ("d", 4, 2, 9), ("e", 5, 1, 9), ("f", -5, 3, 3))
 
-    def test_edges(self):
-        """Equal ones stand in the order of the table, however many are asked for."""
-        store = self.store()
-        for target, _, first, _ in self.ROWS:
-            store.insert("k", "s", target, 1, first)
-        store.commit()
-        for target, weight, _, recent in self.ROWS:
-            store.insert("k", "s", target, weight, recent)
-        store.commit()
-        edges = store.open().edges()
-        self.assertEqual(list(edges), [("k", "s", target, Edge(*values)) for target, *values in self.ROWS])
-        for by, wanted in (("weight", "acedbf"), ("first", "fbcdae"), ("recent", "adebcf")):
-            for count in range(8):
-                self.assertEqual("".join(it[2] for it in edges.top(count, by)), wanted[:count], (by, count))
-
     def test_tables(self):
         store = self.store(*(f"insert k {source} {target} {weight}" for source, target, weight in (
             ("a", "x", 2), ("b", "x", 2), ("c", "x", 1), ("c", "y", 1), ("d", "z", 1), ("e", "z", 7))))

@@ -83,7 +83,7 @@ class Teller:
                 return
             finally:
                 self.tell_faults()
-            self.following._clear_progress()
+            self.following._progress.clear()
             self.tell(step)
             if sys.stdout:
                 sys.stdout.flush()
@@ -115,9 +115,9 @@ class Teller:
 
     def tell_faults(self) -> None:
         """Tells of bad rows that were passed over since the last time, as they are told of in a load: the first ones."""
-        faults = self.following._faults if self.words.skip_bad else []
+        faults = self.following._count.faults if self.words.skip_bad else []
         for it in faults[self.faults_told:]:
-            self.following._clear_progress()
+            self.following._progress.clear()
             print(f"misteluk: passed over: {it.message}", file=sys.stderr)
         self.faults_told = len(faults)
 
@@ -127,7 +127,7 @@ def follow(words: argparse.Namespace, store: Store[Any, Any], how: Dict[str, Any
     with store.follow(words.file, every=words.every, keep=words.keep, ahead=words.ahead, until_end=words.until_end,
                       skip_bad=words.skip_bad, rejects=words.rejects, batch=words.batch, **how) as following:
         try:
-            with ended_by_signals(following.stop, following._cord):
+            with ended_by_signals(following.stop, following._source.cord):
                 Teller(words, store, following).run()
         except BrokenPipeError:
             leave_output()
@@ -136,7 +136,7 @@ def follow(words: argparse.Namespace, store: Store[Any, Any], how: Dict[str, Any
         except StoreError:
             store.discard()  # (the fault says which rows aren't in)
             raise
-        left = ("; more is there that wasn't read" if following._has_unread else
+        left = ("; more is there that wasn't read" if following._source.has_unread else
                 "; the last line isn't whole yet, and not in" if following._half_line else "")
         following.close()
         print(f"misteluk: {following._told}{left}", file=sys.stderr)

@@ -36,7 +36,6 @@ OF_RUN: Dict[str, Any] = {"limits": OF_SCRIPT, "most_blocks": records.MOST_BLOCK
 
 
 def form_of_feed(words: argparse.Namespace) -> Dict[str, Any]:
-    """What is said of the feed."""
     return {"by": words.by, "units": Units(words.weight_scale, words.times, rounding=words.rounding), "names": words.names,
             "format": words.format, "columns": columns_of(words), "delimiter": words.delimiter, "header": words.header,
             "encoding": words.encoding, "decimal": words.decimal, "dates": words.dates, "third": words.third}
@@ -54,13 +53,11 @@ def window(words: argparse.Namespace) -> Dict[str, Any]:
 
 
 def run_load(words: argparse.Namespace) -> int:
-    """Loads a file and asks."""
     if words.interactive and words.file == STANDARD_INPUT:
         raise ValueError("--interactive reads standard input, which is the file here")
     if (words.save or words.edges) and (words.script or words.dry_run):
         raise ValueError("--save and --edges are for what was loaded, and --script and --dry-run load nothing")
-    must_be_place(words.save)
-    must_be_place(words.edges)
+    must_be_places(words)
     found = read(words)
     tell(words, found)
     if words.script or words.dry_run:
@@ -72,8 +69,7 @@ def run_load(words: argparse.Namespace) -> int:
 
 
 def run_restore(words: argparse.Namespace) -> int:
-    must_be_place(words.save)
-    must_be_place(words.edges)
+    must_be_places(words)
     with Store.restore(words.file, blocks=words.blocks) as store:
         stat = store.stat()
         print(f"{words.file}: {size_of(stat.vertices, stat.edges)} restored in {stat.used} of {store.blocks} blocks", flush=True)
@@ -82,9 +78,7 @@ def run_restore(words: argparse.Namespace) -> int:
 
 
 def run_at(words: argparse.Namespace) -> int:
-    """Asks a version that a store's file has."""
-    must_be_place(words.save)
-    must_be_place(words.edges)
+    must_be_places(words)
     with Store.at(words.file, version=words.version, time=words.time) as store:
         stat = store.stat()
         print(f"{words.file}: {size_of(stat.vertices, stat.edges)} as of version {stat.version}", flush=True)
@@ -92,11 +86,12 @@ def run_at(words: argparse.Namespace) -> int:
     return 0
 
 
-def must_be_place(path: Optional[str]) -> None:
-    """Raises where nothing can be saved there, before anything is loaded for it."""
-    if path:
-        files.ending_of(path)
-        files.place_of(path)
+def must_be_places(words: argparse.Namespace) -> None:
+    """Raises where nothing can be written where it is to be, before anything is loaded for it."""
+    for path in (words.save, words.edges):
+        if path:
+            files.ending_of(path)
+            files.place_of(path)
 
 
 def do_then(words: argparse.Namespace, store: Store[Any, Any]) -> None:
@@ -129,7 +124,6 @@ def tell(words: argparse.Namespace, found: Survey) -> None:
 
 
 def answer(words: argparse.Namespace, session: Session[Any, Any]) -> Iterator[str]:
-    """The lines of what is asked for."""
     questions: List[Question] = [*words.ask]
     questions += [Question(f"levels from {shown(it)}", "levels", (it,)) for it in words.levels]
     for it in questions:

@@ -222,7 +222,6 @@ def add_view(page: argparse.ArgumentParser) -> None:
 
 
 def make_parser() -> argparse.ArgumentParser:
-    """The whole command line."""
     parser = argparse.ArgumentParser(prog="misteluk", description="Loads data into Misteluk, and asks.",
                                      epilog="Status: 0, 1 after a fault, 2 for wrong arguments, 130 after Ctrl-C, and 141 where "
                                      "the output lost its reader, as by `| head` (of follow 0).")
@@ -246,5 +245,4 @@ def make_parser() -> argparse.ArgumentParser:
 
 
 def columns_of(words: argparse.Namespace) -> Columns:
-    """The feed's columns, as they were said."""
     return Columns(words.source, words.target, words.kind, words.weight, words.time, words.default_kind)

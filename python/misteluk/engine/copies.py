@@ -36,7 +36,6 @@ class Content(NamedTuple):
 
 
 def content_of(version: Held) -> Content:
-    """What a version holds."""
     return Content(version.kinds(), version.names(), version.edges(WHOLE))
 
 

@@ -56,31 +56,22 @@ class Code(enum.IntEnum):
 
 class Desk(Structure):
     _fields_ = [("at", c_void_p)]
-    at: Any
 
 
 class Batch(Structure):
     _fields_ = [("at", c_void_p)]
-    at: Any
 
 
 class Version(Structure):
     _fields_ = [("at", c_void_p)]
-    at: Any
 
 
 class Diff(Structure):
     _fields_ = [("at", c_void_p)]
-    at: Any
 
 
 class Limits(Structure):
     _fields_ = [("size", c_size_t), ("names", c_uint32), ("kinds", c_uint32), ("batches", c_uint32), ("weight", c_uint64)]
-    size: int
-    names: int
-    kinds: int
-    batches: int
-    weight: int
 
 
 class Columns(Structure):
@@ -90,27 +81,6 @@ class Columns(Structure):
         ("kinds_length", c_size_t), ("sources", c_void_p), ("sources_length", c_size_t), ("targets", c_void_p),
         ("targets_length", c_size_t), ("weights", c_void_p), ("weights_length", c_size_t), ("times", c_void_p),
         ("times_length", c_size_t)]
-    size: int
-    kind_text: Any
-    kind_text_length: int
-    kind_ends: Any
-    kind_ends_length: int
-    text: Any
-    text_length: int
-    ends: Any
-    ends_length: int
-    operations: Any
-    operations_length: int
-    kinds: Any
-    kinds_length: int
-    sources: Any
-    sources_length: int
-    targets: Any
-    targets_length: int
-    weights: Any
-    weights_length: int
-    times: Any
-    times_length: int
 
 
 class EdgeColumns(Structure):
@@ -118,19 +88,6 @@ class EdgeColumns(Structure):
         ("sources_length", c_size_t), ("targets", c_void_p), ("targets_length", c_size_t), ("weights", c_void_p),
         ("weights_length", c_size_t), ("firsts", c_void_p), ("firsts_length", c_size_t), ("recents", c_void_p),
         ("recents_length", c_size_t)]
-    size: int
-    kinds: Any
-    kinds_length: int
-    sources: Any
-    sources_length: int
-    targets: Any
-    targets_length: int
-    weights: Any
-    weights_length: int
-    firsts: Any
-    firsts_length: int
-    recents: Any
-    recents_length: int
 
 
 class DiffColumns(Structure):
@@ -141,27 +98,6 @@ class DiffColumns(Structure):
         ("recents_before_length", c_size_t), ("weights_after", c_void_p), ("weights_after_length", c_size_t),
         ("firsts_after", c_void_p), ("firsts_after_length", c_size_t), ("recents_after", c_void_p),
         ("recents_after_length", c_size_t)]
-    size: int
-    states: Any
-    states_length: int
-    kinds: Any
-    kinds_length: int
-    sources: Any
-    sources_length: int
-    targets: Any
-    targets_length: int
-    weights_before: Any
-    weights_before_length: int
-    firsts_before: Any
-    firsts_before_length: int
-    recents_before: Any
-    recents_before_length: int
-    weights_after: Any
-    weights_after_length: int
-    firsts_after: Any
-    firsts_after_length: int
-    recents_after: Any
-    recents_after_length: int
 
 
 class Counts(Structure):

@@ -321,7 +321,6 @@ class LibraryEngine(Desks):
         self._opening = self._copy(content, number, opening.blocks, opening.shape)
 
     def _content(self, opening: Opening) -> Content:
-        """What the last version holds."""
         version = self._last(opening)
         try:
             return content_of(version)

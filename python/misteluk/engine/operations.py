@@ -36,7 +36,6 @@ class Dictionary:
         self._encoded: Tuple[bytes, "array[int]"] = (b"", array("Q"))
 
     def column(self, names: Sequence[str]) -> "array[int]":
-        """The numbers of names."""
         if not names or names[0] == names[-1] and names.count(names[0]) == len(names):
             return array("I", [self.numbers[it] for it in names[:1]]) * len(names)
         return array("I", itemgetter(*names)(self.numbers))
@@ -126,7 +125,6 @@ class Numbered(NamedTuple):
                         array("q", weights), array("Q", times), of_kinds, of_names)
 
     def some(self, rows: slice) -> "Numbered":
-        """Some of the operations."""
         columns: Any = [it[rows] for it in self[:6]]
         return Numbered._make([*columns, self.of_kinds, self.of_names])
 
@@ -223,7 +221,6 @@ class Operations:
 
     @property
     def text(self) -> bytes:
-        """Their records, one line each."""
         return records_of(self.rows).encode("ascii")
 
 
@@ -257,5 +254,4 @@ def row_of(fields: Sequence[str]) -> Row:
 
 
 def fields_of(row: Row) -> List[str]:
-    """The fields of an operation's record."""
     return records.split_record(records_of([row]))

@@ -66,7 +66,6 @@ class Arrays(NamedTuple):
         return len(self.kinds)
 
     def at(self, places: Sequence[int]) -> "Arrays":
-        """The edges in these places."""
         if len(places) < 2:
             return Arrays(*[array(it.typecode, [it[at] for at in places]) for it in self])
         kinds, sources, targets, weights, firsts, recents = map(itemgetter(*places), self)

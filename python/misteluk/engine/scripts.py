@@ -20,7 +20,6 @@ class Records:
         self._kinds, self._names = (list(map(records.quoted, it.names)) for it in (columns.of_kinds, columns.of_names))
 
     def text(self, rows: slice) -> str:
-        """The records of these operations, one line each."""
         codes, kinds, sources, targets, weights, times = (it[rows] for it in self._columns[:6])
         of_kinds, of_names = self._kinds.__getitem__, self._names.__getitem__
         fields = map(of_kinds, kinds), map(of_names, sources), map(of_names, targets), weights, times

@@ -55,8 +55,9 @@ class Apart(Iterator[Applied]):
 
     def __init__(self, following: Following) -> None:
         self.store, self.name, self._terms = following.store, following.name, following._terms
-        self._recipe, self._begin, self._file = following.recipe, following._begin, os.dup(following._descriptor)
-        self._is_input, self._rejects, self._mark = following._descriptor == 0, following.rejects, following.mark
+        source = following._source
+        self._recipe, self._begin, self._file = following.recipe, source.begin, os.dup(source.descriptor)
+        self._is_input, self._rejects, self._mark = source.descriptor == 0, following.rejects, following.mark
         self.last_bad: Optional[Rejected] = None
         self.place = following.resumed
         following.close()
@@ -101,7 +102,6 @@ class Apart(Iterator[Applied]):
             self._tell(AT_ITS_END)
 
     def _give_back(self) -> None:
-        """Closes its ends of the pipes."""
         ends, self._say, self._out = (self._say, self._out), -1, -1
         for it in ends:
             if it >= 0:
@@ -173,7 +173,6 @@ class Apart(Iterator[Applied]):
         LOG.warning(f"{ended}, and another one reads on")
 
     def _applied(self, parcel: Parcel) -> Applied:
-        """Applies a batch."""
         head, ledger = parcel.head, self.store._ledger
         place = FeedPlace(*head["place"])._replace(rejects=0 if self._rejects is None else self._rejects.size)
         kind_text, kind_ends, text, ends, codes, kinds, sources, targets, weights, times = parcel.columns
@@ -221,7 +220,6 @@ class Apart(Iterator[Applied]):
 
     @property
     def told(self) -> str:
-        """How far it is."""
         return f"{self.place.rows} rows to line {self.place.line} are in"
 
     def stop(self) -> None:

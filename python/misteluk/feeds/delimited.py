@@ -5,73 +5,35 @@ import csv
 import io
 import warnings
 from itertools import chain
-from typing import Generator, Iterable, Iterator, List, Mapping, Optional, Sequence, Tuple, Union
+from typing import Iterable, Iterator, List, Mapping, Optional, Sequence, Tuple, Union, cast
 
 from . import feed as feeds
 from ..errors import FeedFault, LeftOut
-from .feed import Block, Came, Column, Columns, Feed, Path, Table, TableForm, feed_name, open_text, parts_of
+from .feed import Block, Came, Column, Columns, Feed, Path, Rows, Table, TableForm, blocks_of_file, feed_name, parts_of
 from ..values.columns import Same
 from ..values.fields import fields_of
 
-# How many characters of a file are read at once.
-AT_ONCE = 1 << 22
-NO_ROW: Tuple[Sequence[str], int] = ((), 0)
 # Columns that are read only where they are named, and the commands' options for that.
 OPTIONS = {"kind": "--kind", "weight": "--weight", "time": "--time"}
 
 
 def delimited(path: Path, columns: Columns = Columns(), *, delimiter: Optional[str] = None, header: Optional[bool] = None,
               encoding: str = "utf-8") -> Feed:
-    """A delimited file. Where a column is named the file has a header; `header` says so else. Without `delimiter` it is the
-    comma, tab, semicolon or bar of which the first line has most."""
+    """A delimited file; see `DelimitedRows`."""
     must_be_sign(delimiter)
-    return Feed(feed_name(path), Table(lambda: _delimited_blocks(path, columns, delimiter, header, encoding)))
+
+    def blocks() -> Iterator[Block]:
+        rows = DelimitedRows(feed_name(path), columns, delimiter, header)
+        yield from blocks_of_file(path, rows, encoding)
+        if rows.is_named and not rows.is_begun:
+            raise FeedFault(f"{rows.feed}: columns are named, and there is no header: the file is empty")
+    return Feed(feed_name(path), Table(blocks))
 
 
 def must_be_sign(delimiter: Optional[str]) -> None:
     """Raises `ValueError` where a delimiter is said that can't part fields."""
     if delimiter and (len(delimiter) > 1 or delimiter in '"\r\n'):
         raise ValueError(f"delimiter is one sign, as ; or a tab (in a shell $'\\t'), and not {delimiter!r}")
-
-
-def _delimited_blocks(path: Path, columns: Columns, delimiter: Optional[str], header: Optional[bool],
-                      encoding: str) -> Iterator[Block]:
-    feed = feed_name(path)
-    with open_text(path, encoding) as opened:
-        first = opened.readline()
-        sign = delimiter or max(",\t;|", key=first.count)
-        named = any(isinstance(it, str) for it in columns._wanted)
-        names, line = NO_ROW
-        if header or header is None and named:
-            names, line = next(_csv_rows(feed, chain([first] if first else [], opened), sign, 0), NO_ROW)
-        if named and not names:
-            how = "name them by number (from 1)" if first else "the file is empty"
-            raise FeedFault(f"{feed}: columns are named, and there is no header: {how}")
-        picked = Picked(feed, columns, names, sign)
-        text = ("" if line else first) + opened.read(AT_ONCE) + opened.readline()
-        while text:
-            line = yield from _blocks_of(picked, text, opened, sign, line)
-            text = opened.read(AT_ONCE) + opened.readline()
-
-
-def _blocks_of(picked: "Picked", text: str, file: Iterable[str], sign: str, line: int) -> Generator[Block, None, int]:
-    """The rows that begin in a text of whole lines, behind so many lines, and the line of the last one, which may end behind them
-    in the file."""
-    even = even_columns(text, sign)
-    if len(even) >= picked.least:
-        yield picked.of_lines(range(line + 1, line + 1 + len(even[0])), even)
-        return line + len(even[0])
-    lines = io.StringIO(text, newline="")
-    for part in parts_of(lines, feeds.ROWS_AT_ONCE):
-        even = even_columns("".join(part), sign)
-        if len(even) >= picked.least:
-            yield picked.of_lines(range(line + 1, line + 1 + len(part)), even)
-            line += len(part)
-            continue
-        rows = _rows_begun(picked.feed, part, chain(lines, file), sign, line)
-        line = rows[-1][1]
-        yield from picked.of_rows([it for it in rows if it[0]])  # (a blank line is no row)
-    return line
 
 
 def even_columns(text: str, sign: str) -> Sequence[Sequence[str]]:
@@ -93,40 +55,82 @@ def even_columns(text: str, sign: str) -> Sequence[Sequence[str]]:
     return [fields[at:-1:width] for at in range(width)]
 
 
-def _csv_rows(feed: str, lines: Iterable[str], sign: str, before: int) -> Iterator[Tuple[Sequence[str], int]]:
-    """The rows of lines, each with the line that it ends on; so many lines were read before."""
-    reader = csv.reader(lines, delimiter=sign)
-    try:
-        for row in reader:
-            yield row, before + reader.line_num
-    except csv.Error as fault:
-        raise FeedFault(f"{feed}:{before + reader.line_num}: {fault}") from fault
+class DelimitedRows(Rows):
+    """The rows of a delimited file. Where a column is named it has a header; `header` says so else. Without `delimiter` it is the
+    comma, tab, semicolon or bar of which the first line has most. A row that goes on in the next line is kept."""
 
+    def __init__(self, feed: str, columns: Columns, delimiter: Optional[str], header: Optional[bool]) -> None:
+        must_be_sign(delimiter)
+        self.feed, self.columns, self.sign = feed, columns, delimiter or ""
+        self.is_named = any(isinstance(it, str) for it in columns._wanted)
+        self.has_header = self.is_named if header is None else header
+        self.picked: Optional[Picked] = None
 
-def whole_rows(feed: str, lines: Sequence[str], sign: str, before: int, is_end: bool) -> List[Tuple[Sequence[str], int]]:
-    """The rows of lines, without a last one that goes on behind them, unless nothing comes there any more."""
-    ended: List[bool] = []
+    @property
+    def is_begun(self) -> bool:  # type: ignore[override]
+        return self.picked is not None
 
-    def until_the_end() -> Iterator[str]:
-        yield from lines
-        ended.append(True)
-    rows = []
-    for it in _csv_rows(feed, until_the_end(), sign, before):
-        if ended and not is_end:
-            break
-        rows.append(it)
-    return rows
+    def take(self, text: str, is_end: bool) -> Iterator[Block]:
+        text, self.kept = self.kept + text, ""
+        if self.picked is None and text:
+            text = self._begin(text, is_end)
+        if self.picked is not None:
+            text = self._behind(text)
+            yield from self._even(self.picked, text) or self._parts(self.picked, text, is_end)
 
+    def _begin(self, text: str, is_end: bool) -> str:
+        """Takes the header, where there is one, and gives the text behind it; keeps all where it isn't whole yet."""
+        lines, names = io.StringIO(text, newline=""), cast("Sequence[str]", ())
+        self.sign = self.sign or max(",\t;|", key=lines.readline().count)
+        lines.seek(0)
+        if self.has_header:
+            header = next(self._rows(lines, is_end), None)
+            if header is None:
+                self.kept = text
+                return ""
+            names, self.line = header
+        if self.is_named and not names:
+            raise FeedFault(f"{self.feed}: columns are named, and there is no header: name them by number (from 1)")
+        self.picked = Picked(self.feed, self.columns, names, self.sign)
+        self.picked.is_first = self.passed <= self.line
+        return lines.read()
 
-def _rows_begun(feed: str, lines: Sequence[str], file: Iterable[str], sign: str,
-                before: int) -> List[Tuple[Sequence[str], int]]:
-    """The rows that begin in the lines; the last one may end behind them in the file."""
-    rows = []
-    for it in _csv_rows(feed, chain(lines, file), sign, before):
-        rows.append(it)
-        if it[1] >= before + len(lines):
-            break
-    return rows
+    def _even(self, picked: "Picked", text: str) -> List[Block]:
+        """The block of lines that have as many fields each, and plain ones within quotes; none of others."""
+        even = even_columns(text, self.sign) if text else ()
+        if len(even) < picked.least:
+            return []
+        first, self.line = self.line + 1, self.line + len(even[0])
+        return [picked.of_lines(range(first, self.line + 1), even)]
+
+    def _parts(self, picked: "Picked", text: str, is_end: bool) -> Iterator[Block]:
+        """The rows of lines of which some aren't even, a few at a time."""
+        for part in parts_of(io.StringIO(text, newline=""), feeds.ROWS_AT_ONCE):
+            text, self.kept = self.kept + "".join(part), ""
+            yield from self._even(picked, text) or self._uneven(picked, text, False)
+        if is_end and self.kept:
+            yield from self._uneven(picked, self.kept, True)
+
+    def _uneven(self, picked: "Picked", text: str, is_end: bool) -> Iterator[Block]:
+        lines, before = list(io.StringIO(text, newline="")), self.line
+        rows = list(self._rows(lines, is_end))
+        self.line = rows[-1][1] if rows else before
+        self.kept = "".join(lines[self.line - before:])
+        yield from picked.of_rows([it for it in rows if it[0]])  # (a blank line is no row)
+
+    def _rows(self, lines: Iterable[str], is_end: bool) -> Iterator[Tuple[Sequence[str], int]]:
+        """The rows of the next lines, each with the line that it ends on, without a last one that goes on behind them, unless
+        nothing comes there any more."""
+        ended: List[bool] = []
+        noted: Iterator[str] = filter(None, map(ended.append, (True,)))  # (it gives no line)
+        reader, before = csv.reader(chain(lines, noted), delimiter=self.sign), self.line
+        try:
+            for row in reader:
+                if ended and not is_end:
+                    return
+                yield row, before + reader.line_num
+        except csv.Error as fault:
+            raise FeedFault(f"{self.feed}:{before + reader.line_num}: {fault}") from fault
 
 
 class Picked:
@@ -143,7 +147,6 @@ class Picked:
         self.is_first = True
 
     def of_lines(self, lines: range, columns: Sequence[Sequence[str]]) -> Block:
-        """The block of a file's lines, by their columns."""
         came = Came(self.form, lambda at: [it[at] for it in columns], range(len(lines)))
         return self.of_columns(lines, columns)._replace(came=came)
 

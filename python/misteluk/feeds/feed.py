@@ -22,6 +22,8 @@ USUAL_KIND = "link"
 STANDARD_INPUT, ITS_NAME = "-", "standard input"
 # How many rows are read at once: few enough that a processor's nearer memory has them until they are counted.
 ROWS_AT_ONCE = 1_024
+# How many characters of a file are read at once.
+AT_ONCE = 1 << 22
 T = TypeVar("T")
 
 
@@ -78,12 +80,10 @@ class Block(NamedTuple):
 
 
 def rows_of(block: Block) -> Iterator[Row]:
-    """The rows of a block."""
     return cast("Iterator[Row]", zip(*block[:6]))
 
 
 def came_of(block: Block) -> Came:
-    """The rows of a block as they came."""
     if isinstance(block.came, Came):
         return block.came
     columns = [block[2], block[3], block[1], *block[4:6]]
@@ -91,7 +91,6 @@ def came_of(block: Block) -> Came:
 
 
 def part_of(block: Block, rows: slice) -> Block:
-    """Some rows of a block."""
     return Block(*(it[rows] for it in block))
 
 
@@ -112,7 +111,6 @@ class Feed(NamedTuple):
     rows: Iterable[Row]
 
     def blocks(self) -> Iterator[Block]:
-        """The rows in blocks."""
         if isinstance(self.rows, Table):
             return self.rows.blocks()
         return (Block(*zip(*rows)) for rows in parts_of(self.rows, ROWS_AT_ONCE))
@@ -174,7 +172,6 @@ def turned(feed: Feed, *, names: str = "plain") -> Feed:
 
 
 def feed_name(path: Path) -> str:
-    """What a file is called."""
     return ITS_NAME if path == STANDARD_INPUT else os.fspath(path)
 
 
@@ -217,34 +214,65 @@ def _must_be_text(name: str, begin: bytes) -> None:
             raise FeedFault(f"{name}: this is {what}, and no text: read it with {reader}, and load the frame")
 
 
+class Rows:
+    """The rows of a feed's text, as it comes. Those to the line `passed` are in from before, and so passed over. It has begun
+    once it knows what the columns are; `kept` is of a row that isn't whole yet."""
+
+    line = passed = 0
+    is_begun = True
+    kept = ""
+
+    def take(self, text: str, is_end: bool) -> Iterator[Block]:
+        """The rows that are whole with this text, of whole lines; at the end the last one is."""
+        raise NotImplementedError
+
+    def _behind(self, text: str) -> str:
+        """The text behind the lines that are passed over."""
+        if self.passed <= self.line:
+            return text
+        lines = io.StringIO(text, newline="")
+        self.line += sum(1 for _ in islice(lines, self.passed - self.line))
+        return lines.read()
+
+
+def blocks_of_file(path: Path, rows: Rows, encoding: str) -> Iterator[Block]:
+    with open_text(path, encoding) as file:
+        for text in iter(lambda: file.read(AT_ONCE) + file.readline(), ""):
+            yield from rows.take(text, False)
+        yield from rows.take("", True)
+
+
+class SnapRows(Rows):
+    """The rows of an edge list as the Stanford Network Analysis Project has them: comments behind #, and source and target parted
+    by white space; `third` says what a third field is, "weight" or "time"."""
+
+    def __init__(self, feed: str, kind: str, third: Optional[str]) -> None:
+        if third not in (None, "weight", "time"):
+            raise ValueError(f"third is 'weight' or 'time', and not {third!r}")
+        self.feed, self.kind, self.third, self.wanted = feed, kind, third, 2 if third is None else 3
+
+    def take(self, text: str, is_end: bool) -> Iterator[Block]:
+        lines, first = list(io.StringIO(self._behind(text), newline="")), self.line + 1
+        self.line += len(lines)
+        for part in parts_of(self._rows(enumerate(lines, first)), ROWS_AT_ONCE):
+            yield Block(*zip(*part))
+
+    def _rows(self, lines: Iterable[Tuple[int, str]]) -> Iterator[Row]:
+        for line, text in lines:
+            fields = text.split()
+            if not fields or text.startswith("#"):
+                continue
+            if len(fields) < self.wanted or len(fields) > 3:
+                raise FeedFault(f"{self.feed}:{line}: {len(fields)} fields, where an edge list has {self.wanted}")
+            weight = fields[2] if self.third == "weight" else "1"
+            yield line, self.kind, fields[0], fields[1], weight, fields[2] if self.third == "time" else "0"
+
+
 def snap(path: Path, *, kind: str = USUAL_KIND, third: Optional[str] = None, encoding: str = "utf-8") -> Feed:
-    """An edge list as the Stanford Network Analysis Project has them: comments behind #, and source and target parted by
-    white space; `third` says what a third field is, "weight" or "time"."""
-    wanted = snap_fields(third)
-
-    def rows() -> Iterator[Row]:
-        with open_text(path, encoding) as file:
-            yield from snap_rows(feed_name(path), enumerate(file, 1), kind, third, wanted)
-    return Feed(feed_name(path), rows())
-
-
-def snap_fields(third: Optional[str]) -> int:
-    """How many fields a line of an edge list has."""
-    if third not in (None, "weight", "time"):
-        raise ValueError(f"third is 'weight' or 'time', and not {third!r}")
-    return 2 if third is None else 3
-
-
-def snap_rows(feed: str, lines: Iterable[Tuple[int, str]], kind: str, third: Optional[str], wanted: int) -> Iterator[Row]:
-    """The rows of an edge list's lines, each with its number."""
-    for line, text in lines:
-        fields = text.split()
-        if not fields or text.startswith("#"):
-            continue
-        if len(fields) < wanted or len(fields) > 3:
-            raise FeedFault(f"{feed}:{line}: {len(fields)} fields, where an edge list has {wanted}")
-        weight = fields[2] if third == "weight" else "1"
-        yield line, kind, fields[0], fields[1], weight, fields[2] if third == "time" else "0"
+    """An edge list; see `SnapRows`."""
+    name = feed_name(path)
+    SnapRows(name, kind, third)  # (raises now, and not once it is read)
+    return Feed(name, Table(lambda: blocks_of_file(path, SnapRows(name, kind, third), encoding)))
 
 
 def matrix_market(path: Path, *, kind: str = USUAL_KIND, encoding: str = "utf-8") -> Feed:

@@ -14,8 +14,9 @@ from ..values import records
 from ..errors import BadRows, FeedFault, Refused, StoreError, Uncommitted
 from .advice import Reading, advise
 from .calls import Calls
-from .feed import Block, Feed, Path, part_of, turned
-from .growing import MOST_READ, Begin, DelimitedRows, Growing, Incoming, Opened, Rows, SnapRows
+from .delimited import DelimitedRows
+from .feed import Block, Feed, Path, Rows, SnapRows, part_of, turned
+from .growing import MOST_READ, Begin, Growing, Incoming, Opened
 from .surveys import Count, must_be_way
 from .opening import ReadAs, form_of
 from ..engine.calling import MOST_AT_ONCE
@@ -76,18 +77,7 @@ class Following(Iterator[Followed]):
         self._calls = Calls()
 
     @property
-    def _descriptor(self) -> int:
-        """The descriptor of what is read."""
-        return self._source.descriptor
-
-    @property
-    def _begin(self) -> Optional[int]:
-        """Where the reading of a file began, in bytes; `None` of what can't be read again."""
-        return self._source.begin
-
-    @property
     def _place(self) -> FeedPlace:
-        """How far it is in."""
         begin, rejects = self._incoming.begin_before(self._done), 0 if self.rejects is None else self.rejects.size
         return FeedPlace(self._in, self._line, self._newest, self._source.place, self._source.mark, self._done, self._count.bad,
                          bool(self._blocks) or self._incoming.is_half, *begin, rejects)
@@ -101,9 +91,10 @@ class Following(Iterator[Followed]):
     def _resume(self, feeds: Mapping[str, str], mark: Optional[FeedMark]) -> None:
         """Goes on where a store's file has the feed in to, which knows these; without a mark of its own as is found there. Raises
         `FeedFault` where the path has another file by now, and the one before isn't in."""
-        if self._begin is None:
+        source = self._source
+        if source.begin is None:
             return
-        self.mark = mark or mark_of(self.name, self._descriptor, self._begin, feeds)
+        self.mark = mark or mark_of(self.name, source.descriptor, source.begin, feeds)
         self.resumed = self.mark.place
         if self.resumed.done:
             self._pass_over(self.resumed)
@@ -119,13 +110,7 @@ class Following(Iterator[Followed]):
 
     @property
     def _terms(self) -> Terms:
-        """Those of the feed."""
         return self._count.terms
-
-    @property
-    def _faults(self) -> List[Refused]:
-        """The faults of rows that were passed over: the first ten, and the first of each rule."""
-        return list(self._count.faults)
 
     @property
     def last_bad(self) -> Optional[Rejected]:
@@ -139,32 +124,12 @@ class Following(Iterator[Followed]):
     @property
     def _half_line(self) -> bool:
         """Whether there is a last line that isn't whole yet, and so isn't in."""
-        return self._incoming.is_half and not self._has_unread
-
-    @property
-    def _ended_half(self) -> bool:
-        """Whether the feed came to its end amid a line, as where a pipe's writer was killed: that line is a row nevertheless."""
-        return self._source.ended_half
-
-    @property
-    def _has_unread(self) -> bool:
-        """Whether more is there than was read, as where it was stopped amid a long file."""
-        return self._source.has_unread
+        return self._incoming.is_half and not self._source.has_unread
 
     @property
     def _told(self) -> str:
-        """How far it is."""
         bad = f"; {self._count.bad} bad rows passed over" if self._count.bad and self._pace.skip_bad else ""
         return f"{self.name}: {self._in} rows to line {self._line} are in{bad}"
-
-    def _clear_progress(self) -> None:
-        """Takes the line of progress from the terminal, so that another one can stand there."""
-        self._progress.clear()
-
-    @property
-    def _cord(self) -> int:
-        """The descriptor that wakes the waiting for a step where something is written to it."""
-        return self._source.cord
 
     def stop(self) -> None:
         """Ends the steps once everything that was read is in. Any thread may call it, and a signal's handler.
@@ -176,10 +141,6 @@ class Following(Iterator[Followed]):
         """
         self._is_stopped = True
         self._source.ring()
-
-    def _end(self) -> None:
-        """Has what a file has by now go in, and then ends the steps."""
-        self._source.end()
 
     def close(self) -> None:
         """Closes the file. Rows that were read and aren't in stay pending in the store.

@@ -8,11 +8,10 @@ import select
 import stat
 import time
 from collections import deque
-from typing import Deque, Iterator, List, NamedTuple, Optional, Protocol, Sequence, Union
+from typing import Deque, Iterator, List, NamedTuple, Optional, Protocol, Union
 
-from .delimited import Picked, even_columns, must_be_sign, whole_rows
 from ..errors import FeedFault
-from .feed import STANDARD_INPUT, Block, Columns, Feed, Path, Table, codec_of, feed_name, snap_fields, snap_rows, turned
+from .feed import STANDARD_INPUT, Block, Feed, Path, Rows, Table, codec_of, feed_name, turned
 from .marks import Mark, is_plain, is_replaced
 from .notations import Notation
 from .pipes import has_more
@@ -74,7 +73,6 @@ class Growing:
 
     @property
     def descriptor(self) -> int:
-        """The descriptor of what is read."""
         return self._file
 
     @property
@@ -150,10 +148,10 @@ class Growing:
         ready = dict(poll.poll(None if seconds is None else max(seconds, 0.0) * 1000))
         return bool(output is not None and ready.get(output, 0) & (select.POLLERR | select.POLLHUP))
 
-    def lines(self) -> List[str]:
-        """The lines that are there and weren't given before, of some 64 KB at most."""
+    def text(self) -> str:
+        """The whole lines that are there and weren't given before, of some 64 KB at most."""
         if self.is_at_end or not (self._is_file or has_more(self._file, 0.0)):
-            return []
+            return ""
         data = os.read(self._file, MOST_READ)
         self._is_dry = not data
         if self._is_file and data:
@@ -163,15 +161,16 @@ class Growing:
             self._must_be_whole()
             self.is_left = self.is_left or self._was_replaced()
             if not self._is_gone():
-                return []
+                return ""
         self.is_at_end = not data
-        found = list(io.StringIO(self.half + self._decoder.decode(data, not data), newline=""))
-        is_half = bool(found) and not found[-1].endswith(("\n", "\r"))
-        self.ended_half = is_half and self.is_at_end
-        self.half = found.pop() if is_half and not self.is_at_end else ""
+        text = self.half + self._decoder.decode(data, not data)
+        end = max(text.rfind("\n"), text.rfind("\r")) + 1
+        self.ended_half = self.is_at_end and end < len(text)
+        end = len(text) if self.is_at_end else end
+        self.half = text[end:]
         if len(self.half) > MOST_LINE:
             raise FeedFault(f"{self.name}: a line of more than {MOST_LINE} characters")
-        return found
+        return text[:end]
 
     @property
     def has_unread(self) -> bool:
@@ -224,7 +223,6 @@ class Growing:
             raise FeedFault(f"{self.name} was cut to {size} bytes, and {at} were read of it: what it has now isn't known")
 
     def close(self) -> None:
-        """Gives the file back."""
         self._raw.close()
         bell, self._bell, self._cord = (self._bell, self._cord), -1, -1
         for it in bell:
@@ -243,89 +241,6 @@ class Begin(NamedTuple):
     byte: int = 0
 
 
-class Rows:
-    """The rows of a feed's lines, as they come. Those to the line `passed` are in from before, and so passed over. It has begun
-    once it knows what the columns are."""
-
-    line = passed = 0
-    is_begun = True
-    kept: Sequence[str] = ()
-
-    def _behind(self, lines: List[str]) -> List[str]:
-        """The lines behind those that are passed over."""
-        count = min(max(self.passed - self.line, 0), len(lines))
-        self.line += count
-        return lines[count:]
-
-    def take(self, lines: Sequence[str], is_end: bool) -> List[Block]:
-        """The rows that are whole with these lines; at the end the last one is."""
-        raise NotImplementedError
-
-
-class DelimitedRows(Rows):
-    """The rows of a delimited file's lines, as they come; see `delimited`. A row that goes on in the next line is kept."""
-
-    def __init__(self, feed: str, columns: Columns, delimiter: Optional[str], header: Optional[bool]) -> None:
-        must_be_sign(delimiter)
-        self.feed, self.columns, self.sign = feed, columns, delimiter
-        self.is_named = any(isinstance(it, str) for it in columns._wanted)
-        self.has_header = self.is_named if header is None else header
-        self.picked: Optional[Picked] = None
-
-    @property
-    def is_begun(self) -> bool:  # type: ignore[override]
-        return self.picked is not None
-
-    def take(self, lines: Sequence[str], is_end: bool) -> List[Block]:
-        lines = [*self.kept, *lines]
-        self.kept = []
-        if not lines:
-            return []
-        if self.picked is None:
-            lines = self._begin(lines, is_end)
-        lines = self._behind(lines) if self.picked else []
-        if self.picked is None or not lines:
-            return []
-        even = even_columns("".join(lines), self.sign or "")
-        if len(even) >= self.picked.least:
-            self.line += len(lines)
-            return [self.picked.of_lines(range(self.line - len(lines) + 1, self.line + 1), even)]
-        rows = whole_rows(self.feed, lines, self.sign or "", self.line, is_end)
-        before, self.line = self.line, rows[-1][1] if rows else self.line
-        self.kept = lines[self.line - before:]
-        return list(self.picked.of_rows([it for it in rows if it[0]]))  # (a blank line is no row)
-
-    def _begin(self, lines: List[str], is_end: bool) -> List[str]:
-        """Takes the header, where there is one, and gives the lines behind it; keeps all where it isn't whole yet."""
-        self.sign = self.sign or max(",\t;|", key=lines[0].count)
-        names: Sequence[str] = ()
-        if self.has_header:
-            rows = whole_rows(self.feed, lines, self.sign, 0, is_end)
-            if not rows:
-                self.kept = lines
-                return []
-            names, self.line = rows[0]
-        if self.is_named and not names:
-            raise FeedFault(f"{self.feed}: columns are named, and there is no header: name them by number (from 1)")
-        self.picked = Picked(self.feed, self.columns, names, self.sign)
-        self.picked.is_first = self.passed <= self.line
-        return lines[self.line:]
-
-
-class SnapRows(Rows):
-    """The rows of an edge list's lines, as they come; see `snap`."""
-
-    def __init__(self, feed: str, kind: str, third: Optional[str]) -> None:
-        self.feed, self.kind, self.third = feed, kind, third
-        self.wanted = snap_fields(third)
-
-    def take(self, lines: Sequence[str], is_end: bool) -> List[Block]:
-        lines = self._behind(list(lines))
-        rows = list(snap_rows(self.feed, enumerate(lines, self.line + 1), self.kind, self.third, self.wanted))
-        self.line += len(lines)
-        return [Block(*zip(*rows))] if rows else []
-
-
 class Incoming:
     """What comes of a feed: its rows, in the usual notation."""
 
@@ -338,10 +253,10 @@ class Incoming:
 
     def blocks(self) -> List[Block]:
         """The rows that are there and weren't given before."""
-        found = self.rows.take(self.source.lines(), self.source.is_at_end)
+        found = list(self.rows.take(self.source.text(), self.source.is_at_end))
         if self._next is not None and self.rows.is_begun:
             self._go_to(self._next)
-        place = self.source.before("".join(self.rows.kept))
+        place = self.source.before(self.rows.kept)
         if place is not None and Begin(self.rows.line, place) not in self._begins:
             self._begins.append(Begin(self.rows.line, place))
         return [it for block in found for it in self._turned(block)]
@@ -355,7 +270,7 @@ class Incoming:
         self._next = None
         if begin.byte > self.source.place:
             self.source.go_to(begin.byte)
-            self.rows.line, self.rows.kept = begin.lines, []
+            self.rows.line, self.rows.kept = begin.lines, ""
 
     def begin_before(self, line: int) -> "Begin":
         """The last place where a row begins that isn't behind this line."""

@@ -74,7 +74,6 @@ class Loaded:
         return f"<Loaded {self}>"
 
     def _repr_html_(self) -> str:
-        """What a notebook shows."""
         done = {} if self.commit is None else vars(self.commit)
         return shown_as_html("Loaded", {"feed": self.survey.feed, "rows": self.survey.rows, "bad rows": self.survey.bad,
                                         "seconds": f"{self.seconds:.1f}", **done})

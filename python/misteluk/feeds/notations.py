@@ -41,7 +41,6 @@ class Notation(NamedTuple):
         return self
 
     def turned(self, feed: Feed) -> Feed:
-        """The feed with numbers and dates in the usual notation."""
         if self == Notation():
             return feed
 

@@ -61,7 +61,6 @@ class ReadAs:
 
     @property
     def units_given(self) -> Units[Any, Any]:
-        """The units that are given."""
         units = units_given(self.units)
         return replace(units, times=ISO) if self.dates else units
 

@@ -22,11 +22,9 @@ class Part(NamedTuple):
 
     @property
     def text(self) -> bytes:
-        """Its records."""
         return Operations(columns=self.columns).text
 
     def some(self, rows: slice) -> "Part":
-        """A batch of some of the operations."""
         return Part(self.columns.some(rows), self.lines[rows])
 
     def keys(self) -> "Iterator[int]":

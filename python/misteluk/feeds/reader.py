@@ -124,11 +124,10 @@ def read(following: Following, outbox: Outbox) -> None:
     except (StoreError, ValueError, OSError) as fault:
         outbox.end(word=getattr(fault, "word", "") or type(fault).__name__, text=str(fault))
     else:
-        outbox.end(is_half=following._ended_half)
+        outbox.end(is_half=following._source.ended_half)
 
 
 def run(following: Following, outbox: Outbox) -> None:
-    """Reads, and ends the process."""
     status = 1
     try:
         read(following, outbox)
@@ -156,5 +155,5 @@ def main(said: int, descriptor: int) -> None:
         # (by a thread that no signal interrupts, whose steps take less time)
         threading.Thread(target=run, args=(following, outbox), daemon=True).start()
         for word in iter(lambda: file.read(1), b""):
-            following._end() if word == AT_ITS_END else following.stop()
+            following._source.end() if word == AT_ITS_END else following.stop()
     os._exit(0)

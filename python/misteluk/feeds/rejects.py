@@ -50,7 +50,6 @@ class Keeps(Protocol):
 
 
 def written(fields: Sequence[Any], sign: str) -> str:
-    """A row as a line of CSV."""
     text = io.StringIO()
     csv.writer(text, delimiter=sign, lineterminator="\n").writerow(fields)
     return text.getvalue()

@@ -291,7 +291,6 @@ class Count:
         return "; ".join(map(str, faults))
 
     def survey(self, joins: bool = False) -> Survey:
-        """What was counted, when all rows were taken."""
         kinds = list(map(self.terms.names.to_user, self.of_kinds.names))
         parts = Parts.of(self.taken, self.batch)
         return Survey(self.feed, self.by, parts, self.rows, len(self.of_names.numbers), kinds, self.bad, self.fault_counts,

@@ -1,7 +1,7 @@
 """What a store's user says and is told, and what the program has for it: names by a table, weights and times by units."""
 from __future__ import annotations
 
-from typing import Any, Callable, Collection, Dict, List, Optional, Sequence, Set, Tuple
+from typing import Any, Callable, Collection, List, Optional, Sequence, Set, Tuple
 
 from .advice import advice_for
 from .feed import Block
@@ -13,13 +13,10 @@ from ..values.names import MARK, NameTable, text_reason
 from ..values.records import Fault
 from ..values.units import PLAIN, Units
 
-_WORDS: Dict[str, str] = {**dict.fromkeys(records.NAME_FIELDS, "BadName"), **dict.fromkeys(records.WEIGHT_FIELDS, "BadWeight"),
-                          **dict.fromkeys(records.TIME_FIELDS, "BadTime")}
 # What a user says for fields of requests.
 _SAID = {"lo": "since", "hi": "until"}
 # How many names are known to be right at most.
 MOST_KNOWN = 1 << 18
-_ORDER = ("BadCommand", "BadFields", "BadName", "BadWeight", "BadTime", "BadSlot")
 
 
 class Terms:
@@ -50,7 +47,7 @@ class Terms:
                 found.append(self._field(field, value, keep))
             except ValueError as fault:
                 found.append("")
-                faults.append(Fault(_WORDS[field], field, value, str(fault)))
+                faults.append(Fault(records.RULES[field][0], field, value, str(fault)))
         return found, faults
 
     def _field(self, field: str, value: str, keep: bool) -> str:
@@ -65,7 +62,7 @@ class Terms:
         found, faults = self.turned(fields, keep=False)
         empty = {it.field for it in faults}
         faults += [it for it in records.faults_of(found, seats) if it.field is None or it.field not in empty]
-        return sorted(faults, key=lambda it: _ORDER.index(it.word))
+        return sorted(faults, key=lambda it: records.ORDER.index(it.word))
 
     def refusal(self, fault: Fault, **where: "object") -> Refused:
         """The exception for a fault, with what helps where such a value stands there."""

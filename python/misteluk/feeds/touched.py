@@ -43,7 +43,6 @@ class Teller:
         self._waiting: "Deque[Tuple[Touched, Optional[Followed]]]" = deque()
 
     def put(self, version: int, names: Iterable[str], step: Optional[Followed] = None) -> None:
-        """Takes a batch, which is to be told."""
         self._waiting.append((Touched(version, tuple(names)), step))
 
     def tell(self, made: "Deque[Followed]") -> None:

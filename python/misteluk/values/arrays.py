@@ -81,7 +81,6 @@ class ReadOnlyArray(Sequence[int]):
         return self._numbers.tobytes()
 
     def __reduce__(self) -> Any:
-        """What pickles it: a copy."""
         return ReadOnlyArray, (self._numbers[:],)
 
     def __repr__(self) -> str:

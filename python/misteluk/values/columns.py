@@ -21,7 +21,6 @@ class FieldColumn(Sequence[str]):
         raise NotImplementedError
 
     def some(self, rows: slice) -> "FieldColumn":
-        """Some rows."""
         raise NotImplementedError
 
     def numbered(self, numbers_of: NumbersOf, of: object) -> "Optional[array[int]]":

@@ -52,7 +52,6 @@ class Limits:
         return self
 
     def __repr__(self) -> str:
-        """What was said."""
         return f"Limits({', '.join(f'{name}={it}' for name, it in vars(self).items() if it is not None)})"
 
     def _over(self, vertices: int, kinds: int) -> List[str]:

@@ -7,7 +7,8 @@ from __future__ import annotations
 
 import re
 from array import array
-from typing import Dict, Iterable, List, NamedTuple, Optional, Sequence, Tuple
+from functools import partial
+from typing import Callable, Dict, Iterable, List, NamedTuple, Optional, Sequence, Tuple
 
 from .fields import Fields
 
@@ -109,18 +110,12 @@ def slot_reason(text: str, seats: int) -> Optional[str]:
     return None if int(text) < seats else f"the slots are 0 to {seats - 1}"
 
 
-def _field_reason(field: str, value: str) -> Optional[Tuple[str, str]]:
-    """The word and the reason why a field is refused, whatever the store has; or `None`."""
-    if field in NAME_FIELDS:
-        reason = kind_reason(value) if field == "kind" else name_reason(value)
-        return None if reason is None else ("BadName", reason)
-    if field in WEIGHT_FIELDS:
-        reason = weight_reason(value)
-        return None if reason is None else ("BadWeight", reason)
-    if field in TIME_FIELDS:
-        reason = time_reason(value)
-        return None if reason is None else ("BadTime", reason)
-    return None
+# The word and the reason why a field is refused, whatever the store has; of a slot how many there are decides.
+RULES: Dict[str, Tuple[str, Callable[[str], Optional[str]]]] = {
+    **dict.fromkeys(NAME_FIELDS, ("BadName", name_reason)), "kind": ("BadName", kind_reason),
+    **dict.fromkeys(WEIGHT_FIELDS, ("BadWeight", weight_reason)), **dict.fromkeys(TIME_FIELDS, ("BadTime", time_reason))}
+# The words in the order in which the program tells them.
+ORDER = ("BadCommand", "BadFields", "BadName", "BadWeight", "BadTime", "BadSlot")
 
 
 def faults_of(fields: Sequence[str], seats: int = USUAL_SEATS) -> List[Fault]:
@@ -133,17 +128,11 @@ def faults_of(fields: Sequence[str], seats: int = USUAL_SEATS) -> List[Fault]:
     if len(fields) - 1 != len(names):
         wanted = ",".join((command, *names))
         return [Fault("BadFields", None, None, f"{len(fields)} fields, where {wanted} has {len(names) + 1}")]
-    found = []
+    found: List[Fault] = []
     for field, value in zip(names, fields[1:]):
-        refused = _field_reason(field, value)
-        if refused is not None:
-            found.append(Fault(refused[0], field, value, refused[1]))
-        elif field == "slot":
-            slot = slot_reason(value, seats)
-            found += [] if slot is None else [Fault("BadSlot", field, value, slot)]
-    order = ("BadName", "BadWeight", "BadTime", "BadSlot")
-    found.sort(key=lambda it: order.index(it.word))
-    return found
+        word, reason_of = RULES.get(field, ("BadSlot", partial(slot_reason, seats=seats)))
+        found.extend(Fault(word, field, value, it) for it in (reason_of(value),) if it is not None)
+    return sorted(found, key=lambda it: ORDER.index(it.word))
 
 
 def quoted(field: str) -> str:
