@@ -222,19 +222,29 @@ class Managers(ServeCase):
 
 
 @unittest.skipUnless(SHARE.is_dir(), "share/ is not there")
-class Shared(Case):
-    def options(self):
-        from misteluk.command.options import make_parser
-        commands = next(it for it in make_parser()._actions if it.choices).choices
-        return {name for it in commands["serve"]._actions for name in it.option_strings}
+class Shared(ServeCase):
+    def words_of(self, name):
+        """Those of its command, with places of this test's own."""
+        found = re.search(r"(?m)^ExecStart=.* serve (.*)$|^ *command: (\[.*\])$", (SHARE / name).read_text())
+        text = " ".join(json.loads(found[2]) if found[2] else [found[1]])
+        for place, here in (("/var/lib/misteluk/graph", f"{self.room}/{name}"), ("/etc/misteluk/tokens", self.tokens),
+                            ("/run/secrets/tokens", self.tokens), ("0.0.0.0:7700", "127.0.0.1:0")):
+            text = text.replace(place, here)
+        return [*text.split(), "--listen", "127.0.0.1:0"]
 
-    def test_they_have_options_that_there_are(self):
-        for name, count in (("misteluk.service", 3), ("compose.yaml", 4)):
-            text = (SHARE / name).read_text()
-            command = re.search(r"(?m)^ExecStart=.* serve (.*)$|^ *command: (\[.*\])$", text)
-            words = command[1].split() if command[1] else json.loads(command[2])
-            found = {it for it in words if it.startswith("--")}
-            self.assertEqual((len(found), found - self.options()), (count, set()), name)
+    def test_they_run(self):
+        """What a server answers that was begun so is there after a kill."""
+        self.tokens = self.file("tokens", "fred feed token-of-fred\n")
+        os.chmod(self.tokens, 0o600)
+        for name in ("misteluk.service", "compose.yaml"):
+            for edges in (0, 1):
+                server = self.command(*self.words_of(name))
+                with connect(server.stdout.readline().split()[1], token="token-of-fred") as store:
+                    self.assertEqual(store.stat().edges, edges, name)
+                    store.add("k", "ana", "bob", 5, 1)
+                    store.commit()
+                    server.kill()
+                    server.wait()
 
     @unittest.skipUnless(shutil.which("systemd-analyze"), "systemd-analyze is not there")
     def test_a_unit(self):
