@@ -28,7 +28,7 @@ sys.path.insert(0, str(HERE.parent))
 # What is said of a test that is of stores in process alone, and so isn't missed over those of a server.
 IN_PROCESS = r"\.\.\. skipped 'of stores in process alone'"
 # Files of tests that also run over stores that a server has, and what a server needs.
-SERVED = ("against_program", "arrays", "closing", "names", "objects", "read_only", "store", "units", "view", "view_browsers",
+SERVED = ("against_program", "arrays", "names", "objects", "read_only", "store", "units", "view", "view_browsers",
           "view_dense", "walking", "walking_calls")
 OF_SERVER = ("starlette", "uvicorn")
 OPTIONAL = ("networkx", "pandas", "tqdm", *OF_SERVER)

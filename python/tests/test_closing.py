@@ -8,14 +8,14 @@ from unittest import mock
 
 from asking import ROWS, calls, plain
 from serving import ServeCase
-from support import IN_PROCESS, IS_SERVED, Case
+from support import Case
 
 import misteluk
 from misteluk import SessionClosed
 
 # Whose steps are those of a call, and for how many seconds threads ask.
 OURS = tuple(f"/misteluk/{it}.py" for it in ("engine/held", "engine/walked", "serve/client", "session", "graphs", "walks"))
-A_WHILE = 2.0
+A_WHILE = 1.0
 # The calls that keep what they were told, or go by what is kept.
 OF_ALL = "degrees", "edges", "in_edges of a kind", "out_edges", "in_edges", "levels", "edge count"
 OF_OTHERS = ("to_pandas", "to_networkx", "to_igraph", "to_scipy", "view", "to_csv")
@@ -124,19 +124,8 @@ class Meanwhile:
         self.assertGreater(len(told[True]), 0)
         self.assertGreater(len(told["closed"]), 0)
 
-
-class Closing(Meanwhile, Case):
-    def test_a_session_is_closed_at_each_step(self):
-        store = self.store(*ROWS, seats=3)
-        for by_instruction, step, names in ((False, 1, OF_ALL), (True, 1, OF_ALL), (False, 2, CALLS.keys() - OF_ALL)):
-            found = self.wrong(lambda: (store, store.open()), lambda store, session: session.close(), by_instruction,
-                               step * (7 if IS_SERVED else 1), names)
-            self.assertEqual(found, [])
-        self.assertEqual(store._engine.open_count, 0)
-
-    def test_each_call_of_a_session_that_is_closed(self):
-        """It says so, whatever was asked before."""
-        store = self.store(*ROWS)
+    def each_says_so(self, store):
+        """Each call says that its session is closed, whatever was asked before."""
         for name, is_asked in product(CALLS, (False, True)):
             session = store.open()
             if is_asked:
@@ -145,7 +134,18 @@ class Closing(Meanwhile, Case):
             self.assertRaisesRegex(SessionClosed, "^the session of version 1 is closed", asked, name, session)
         self.assertRaisesRegex(SessionClosed, "version 1 is closed", session.save, self.room / "saved.csv")
 
-    @unittest.skipIf(IS_SERVED, IN_PROCESS)
+
+class Closing(Meanwhile, Case):
+    def test_a_session_is_closed_at_each_step(self):
+        store = self.store(*ROWS, seats=3)
+        for by_instruction, step, names in ((True, 1, OF_ALL), (False, 2, CALLS.keys() - OF_ALL)):
+            found = self.wrong(lambda: (store, store.open()), lambda store, session: session.close(), by_instruction, step, names)
+            self.assertEqual(found, [])
+        self.assertEqual(store._engine.open_count, 0)
+
+    def test_each_call_of_a_session_that_is_closed(self):
+        self.each_says_so(self.store(*ROWS))
+
     def test_a_store_is_closed_at_each_step(self):
         def opened():
             store = self.store(*ROWS)
@@ -157,7 +157,6 @@ class Closing(Meanwhile, Case):
         store = self.store(*ROWS, seats=3)
         self.only_closed(lambda: (store, store.open()), lambda store, session: session.close())
 
-    @unittest.skipIf(IS_SERVED, IN_PROCESS)
     def test_threads_ask_a_session_whose_store_is_closed(self):
         def opened():
             store = self.store(*ROWS)
@@ -183,6 +182,9 @@ class OfServers(Meanwhile, ServeCase):
     def test_a_connection_is_closed_at_each_step(self):
         for close in (lambda store, session: session.close(), lambda store, session: store.close()):
             self.assertEqual(self.wrong(self.opened, close, step=11), [])
+
+    def test_each_call_of_a_session_that_is_closed(self):
+        self.each_says_so(misteluk.connect(self.server.url))
 
     def test_threads_ask_a_connection_that_is_closed(self):
         self.only_closed(self.opened, lambda store, session: session.close())
