@@ -38,13 +38,6 @@ class Told(NamedTuple):
         return json.loads(self.body)
 
 
-def told_by(link: Any, method: str = "POST") -> Told:
-    """The response to a request of this method that comes by a connection."""
-    with http.client.HTTPResponse(link, method=method) as found:
-        found.begin()
-        return Told(found.status, {name.lower(): value for name, value in found.headers.items()}, found.read())
-
-
 class Clock:
     """A clock that stands still until it is told to go on."""
 

@@ -135,7 +135,7 @@ class Prefixes(ServeCase):
             self.assertRaises(ValueError, Talk, url)
         for url, begin in (("https://h/a b", "/a%20b"), ("http://h", ""), ("http://h/", ""), ("http://h/x//", "/x"),
                            ("unix:/tmp/x", ""), ("http://h/\u0438", "/%D0%B8")):
-            self.assertEqual(Talk(url)._begin, begin)
+            self.assertTrue(Talk(url)._request("GET", "/v1/stat", None).startswith(f"GET {begin}/v1/stat HTTP".encode()), url)
 
 
 if __name__ == "__main__":

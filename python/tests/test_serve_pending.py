@@ -176,7 +176,7 @@ class Pending(ProcessCase):
             store.commit()
             store.add("k", "a", "b", 5, 1)
             headers = store._engine.talk._headers
-            store._engine.talk._headers = {"Authorization": "Bearer other-token"}
+            store._engine.talk._headers = headers.replace("open-sesame", "other-token")
             self.assertRaises(misteluk.errors.NotAllowed, store.commit)
             self.assertEqual((store.discard(), store.pending), (1, 0))
             store._engine.talk._headers = headers

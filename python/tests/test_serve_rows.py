@@ -1,19 +1,21 @@
 """What a server and its clients do by small parts, in rows of each form: heads, hosts, columns, faults, lines of a log."""
 import asyncio
-import io
 import json
 import logging
+import socket
 import unittest
+from http.client import HTTPException
 from unittest import mock
 
 from serving import Clock, HAS_PACKAGES, NO_PACKAGES
 from support import Case
+from test_serve_talk import CHUNKED, WHOLE, Link
 
 from misteluk import Stat, errors
 from misteluk.engine.protocol import Denied
-from misteluk.serve import log, wire
+from misteluk.serve import answers, log, wire
 from misteluk.serve.board import Board, Full
-from misteluk.serve.limits import RUN, ServerLimits
+from misteluk.serve.limits import ServerLimits
 from misteluk.serve.metrics import Counts, Spread, gauge, of_numbers
 from misteluk.serve.people import EVERYONE, NOBODY, People, Person
 from misteluk.serve.talk import Talk, Told, fault_of, part
@@ -114,39 +116,31 @@ async def gather(call):
 
 
 class Talks(unittest.TestCase):
+    def test_hosts(self):
+        for url, host in (("http://h", "h"), ("http://h:7", "h:7"), ("http://h:80/", "h:80"), ("http://[::1]", "[::1]"),
+                          ("http://[::1]:7", "[::1]:7"), ("http://b\u00fccher.example:7", "xn--bcher-kva.example:7"),
+                          ("unix:/tmp/x", "localhost")):
+            head = Talk(url)._request("GET", "/v1/stat", None)
+            self.assertEqual(head, f"GET /v1/stat HTTP/1.1\r\nHost: {host}\r\nAccept-Encoding: identity\r\n"
+                             "Content-Length: 0\r\n\r\n".encode())
+
     def test_requests(self):
-        """Each says its host, who asks, and which run of the server is known; none is longer than the server takes."""
         with mock.patch.dict("os.environ", {"MISTELUK_TOKEN": "token-of-here"}):
-            named, given = Talk("http://b\u00fccher.example:7/x%20y/"), Talk("unix:/tmp/x", "token-given")
-        for talk, where, host, token in ((named, "/x%20y/z", "xn--bcher-kva.example:7", "token-of-here"),
-                                         (given, "/z", "localhost", "token-given")):
+            named, given = Talk("http://h"), Talk("http://h", "token-given")
+        for talk, token in ((named, "token-of-here"), (given, "token-given")):
             talk.run = "run-1"
-            self.assertEqual(self.sent(talk, "POST", {"a": 1}), (
-                f"POST {where} HTTP/1.1", {"Host": host, "Accept-Encoding": "identity", "Authorization": f"Bearer {token}",
-                                           RUN: "run-1", "Content-Type": "application/json", "Content-Length": "8"},
-                '{"a": 1}'))
-        self.assertEqual(self.sent(Talk("http://[::1]:7"), "GET", None),
-                         ("GET /z HTTP/1.1", {"Host": "[::1]:7", "Accept-Encoding": "identity"}, ""))
+            wanted = ("POST /x HTTP/1.1\r\nHost: h\r\nAccept-Encoding: identity\r\n"
+                      f"Authorization: Bearer {token}\r\nmisteluk-server: run-1\r\nContent-Type: application/json\r\n"
+                      'Content-Length: 8\r\n\r\n{"a": 1}')
+            self.assertEqual(talk._request("POST", "/x", {"a": 1}), wanted.encode())
         given.most_body = 8
-        self.assertEqual(self.sent(given, "POST", {"a": 1})[2], '{"a": 1}')
+        self.assertTrue(given._request("POST", "/x", {"a": 1}).endswith(b"Content-Length: 8\r\n\r\n{\"a\": 1}"))
         given.most_body = 7
-        self.assertRaisesRegex(errors.TooLarge, "a request of 8 bytes, and the server takes 7", given.ask, "POST", "/z", {"a": 1})
+        self.assertRaisesRegex(errors.TooLarge, "a request of 8 bytes, and the server takes 7", given._request, "POST", "/x",
+                               {"a": 1})
         for wrong in ("with\nline", "\u00e9t\u00e9-token"):
             self.assertRaisesRegex(ValueError, "a token has printable ASCII signs alone", Talk, "http://h", wrong)
         self.assertEqual(part("a/b c%\u00e9"), "a%2Fb%20c%25%C3%A9")
-
-    def sent(self, talk, method, body):
-        """The first line, headers and body of a request that is answered by nothing."""
-        link, data = mock.Mock(), []
-        link.sendall, link.makefile.return_value = data.append, io.BytesIO(b"HTTP/1.1 200 OK\r\nContent-Length: 0\r\n\r\n")
-        connection, _ = talk._connection()
-        connection.sock = link
-        with mock.patch.object(talk, "_connection", return_value=(connection, False)):
-            talk.ask(method, "/z", body)
-        talk._idle.clear()
-        head, _, rest = b"".join(data).decode().partition("\r\n\r\n")
-        first, *lines = head.split("\r\n")
-        return first, dict(it.split(": ") for it in lines), rest
 
     def test_a_connection_that_is_kept(self):
         """It is looked at without waiting, and taken where nothing is there to be read; else a new one is made."""
@@ -201,6 +195,17 @@ class Talks(unittest.TestCase):
                     found = "a fault"
             self.assertEqual(found, status if status < 400 else "a fault")
 
+    def test_what_ends_a_connection(self):
+        """Whatever goes wrong on it."""
+        for fault, told in ((ConnectionError("why"), errors.NoServer), (HTTPException(), errors.NoServer),
+                            (socket.timeout(), errors.NoAnswer), (OSError("why"), errors.NoServer),
+                            (KeyboardInterrupt(), KeyboardInterrupt)):
+            talk, connection = Talk("http://h:7"), mock.Mock()
+            with mock.patch.object(talk, "_connection", return_value=(connection, False)), \
+                    mock.patch.object(talk, "_on", side_effect=fault):
+                self.assertRaises(told, talk.ask, "GET", "/x")
+            connection.close.assert_called_once_with()
+
     def test_what_became_of_a_server(self):
         talk = Talk("http://h:7")
         for fault, told in ((ConnectionError("why"), "http://h:7 doesn't answer: why"),
@@ -208,6 +213,21 @@ class Talks(unittest.TestCase):
             for was_sent in (True, False):
                 found = talk._gone(fault, was_sent)
                 self.assertEqual((str(found), found.is_sent), (told, was_sent))
+
+
+class Responses(unittest.TestCase):
+    def test_most_are_read_at_once(self):
+        """Those that have a length, however their bytes come; others, and those amid which something is wrong, by http.client."""
+        with mock.patch.object(answers, "_any", side_effect=AssertionError):
+            for step in range(1, len(WHOLE) + 1):
+                self.assertEqual(answers.read(Link(WHOLE, step), "GET").body, b"hello")
+            none = WHOLE.replace(b"5", b"0")[:-5]
+            self.assertEqual(answers.read(Link(none, 1 << 20), "GET").body, b"")
+        with mock.patch.object(answers, "_any", return_value="other") as other:
+            for data in (CHUNKED, WHOLE.replace(b"1.1", b"1.0"), WHOLE + b"more", WHOLE.replace(b"200", b"204"),
+                         WHOLE.replace(b": 5", b": \xb2"), b"HTTP/1.1 200 OK\r\nContent-Length\r\n\r\n"):
+                self.assertEqual(answers.read(Link(data, 1 << 20), "GET"), "other", data)
+                self.assertEqual(other.call_args[0][1:], (data, "GET"))
 
 
 class Faults(unittest.TestCase):

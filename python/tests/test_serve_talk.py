@@ -1,17 +1,18 @@
-"""What a client in Python and a server say to each other: questions in parts and at once, rows and names seen at once."""
+"""What a client in Python and a server say to each other: responses of each form, and questions in parts and at once."""
 import json
 import socket
 import time
 import unittest
 from array import array
+from http.client import HTTPException, RemoteDisconnected
 from unittest import mock
 
-from serving import HAS_PACKAGES, NO_PACKAGES, ServeCase, told_by
+from serving import HAS_PACKAGES, NO_PACKAGES, ServeCase
 
 from misteluk import Degree, Units, connect
 from misteluk.engine.operations import row_of
 from misteluk.engine.protocol import Scope
-from misteluk.serve import wire
+from misteluk.serve import answers, wire
 from misteluk.serve.checking import seen_rows
 from misteluk.serve.limits import ServerLimits
 from misteluk.serve.people import EVERYONE
@@ -21,6 +22,57 @@ from misteluk.values.parcels import unpacked
 if HAS_PACKAGES:
     from misteluk.serve import asking
     from misteluk.serve.flow import PERSON
+
+WHOLE = b"HTTP/1.1 200 OK\r\nContent-Length: 5\r\nMisteluk-Server: x\r\n\r\nhello"
+CHUNKED = b"HTTP/1.1 200 OK\r\ntransfer-encoding: chunked\r\n\r\n5\r\nhello\r\n3\r\n!!!\r\n0\r\n\r\n"
+
+
+class Link:
+    """A connection by which bytes come, so many at once, and then its end."""
+
+    def __init__(self, data, step):
+        self.data, self.step = data, step
+
+    def recv(self, size):
+        part, self.data = self.data[:min(size, self.step)], self.data[min(size, self.step):]
+        return part
+
+    def recv_into(self, buffer):
+        part = self.recv(len(buffer))
+        buffer[:len(part)] = part
+        return len(part)
+
+
+class Reading(unittest.TestCase):
+    def read(self, data, step=1 << 20):
+        """The response that such bytes are."""
+        return answers.read(Link(data, step), "GET")
+
+    def test_forms(self):
+        for data, told in (
+                (WHOLE, (200, b"hello", False)), (CHUNKED, (200, b"hello!!!", False)),
+                (b"HTTP/1.1 200 OK\r\n\r\nhello", (200, b"hello", True)),
+                (b"HTTP/1.1 204 No Content\r\n\r\n", (204, b"", False)),
+                (b"HTTP/1.1 304 Not Modified\r\nContent-Length: 5\r\n\r\n", (304, b"", False)),
+                (b"HTTP/1.1 100 Continue\r\n\r\n" + WHOLE, (200, b"hello", False)),
+                (WHOLE.replace(b"\r\n\r\n", b"\r\nConnection: close\r\n\r\n"), (200, b"hello", True)),
+                (WHOLE.replace(b"1.1", b"1.0"), (200, b"hello", True)),
+                (WHOLE.replace(b"200 OK", b"503"), (503, b"hello", False)),
+                (WHOLE.replace(b"x\r\n", b"x\r\nLong: " + b"y" * 20_000 + b"\r\n"), (200, b"hello", False)),
+                (b"HTTP/1.1 200 OK\r\nContent-Length: 1000000\r\n\r\n" + b"z" * 1_000_000, (200, b"z" * 1_000_000, False))):
+            for step in (1, 7, 1 << 20) if len(data) < 1_000 else (4_096,):
+                found = self.read(data, step)
+                self.assertEqual((found.status, found.body, found.is_last), told, (data[:100], step))
+        self.assertEqual(self.read(WHOLE).headers, {"content-length": "5", "misteluk-server": "x"})
+
+    def test_what_is_none(self):
+        self.assertRaises(RemoteDisconnected, self.read, b"")
+        for data, end in ((WHOLE, len(WHOLE)), (CHUNKED, CHUNKED.index(b"0\r\n\r\n"))):
+            for size in range(1, end):
+                self.assertRaises((HTTPException, ConnectionError), self.read, data[:size])
+        for data in (b"SSH-2.0-OpenSSH\r\n\r\n", b"\x00" * 200, b"HTTP/1.1 twenty\r\n\r\n", b"a" * 100_000):
+            self.assertRaises(HTTPException, self.read, data)
+
 
 class Rows(ServeCase):
     def test_rows_that_are_seen_at_once(self):
@@ -119,7 +171,7 @@ class Asked(ServeCase):
                 link.sendall(data[before:end])
                 before = end
                 time.sleep(0.02 if parts else 0)
-            found = told_by(link)
+            found = answers.read(link, "POST")
         return found.status, found.body
 
     def test_at_once_and_in_parts(self):
@@ -161,8 +213,8 @@ class Asked(ServeCase):
         self.assertEqual((status, json.loads(body)["error"]), (413, "TooLarge"))
         with socket.create_connection(("127.0.0.1", self.server.address.port)) as link:  # (whose body never comes)
             link.sendall(b"POST /v1/sessions/x/ask HTTP/1.1\r\nHost: localhost\r\nContent-Length: 9\r\n\r\n")
-            found = told_by(link)
-        self.assertEqual((found.status, found.json["error"]), (503, "TooLong"))
+            found = answers.read(link, "POST")
+        self.assertEqual((found.status, json.loads(found.body)["error"]), (503, "TooLong"))
 
     def test_a_hub_is_counted_once(self):
         """Who has too many edges to be answered at once is answered by a thread from then on, as before."""

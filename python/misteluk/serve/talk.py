@@ -9,8 +9,9 @@ from collections import deque
 from contextlib import suppress
 from http.client import HTTPConnection, HTTPException, HTTPSConnection
 from typing import Any, Deque, Dict, Mapping, NamedTuple, Optional, Tuple
-from urllib.parse import quote, urlsplit
+from urllib.parse import SplitResult, quote, urlsplit
 
+from . import answers
 from .limits import RUN
 from .server import UNIX
 from ..engine.protocol import Denied
@@ -70,7 +71,8 @@ class Talk:
         if token and not (token.isprintable() and token.isascii()):
             raise ValueError("a token has printable ASCII signs alone")
         # What each request says.
-        self._headers = {"Authorization": f"Bearer {token}"} if token else {}
+        self._headers = "\r\n".join([f"Host: {_host_of(parts)}", "Accept-Encoding: identity",
+                                     *([f"Authorization: Bearer {token}"] if token else [])])
         # Which run of the server this client knows, and how long a request's body may be at most, as that told.
         self.run, self.most_body = "", 1 << 30
         self._idle: Deque[HTTPConnection] = deque()
@@ -96,15 +98,13 @@ class Talk:
     def ask(self, method: str, path: str, body: Optional[Mapping[str, Any]] = None, was_sent: bool = False) -> Told:
         """What a request gives. A connection that the server closes meanwhile is made anew once: no call does harm that is made
         twice."""
-        given = b"" if body is None else json.dumps(body).encode("ascii")
-        if len(given) > self.most_body:
-            raise TooLarge(f"a request of {len(given):,} bytes, and the server takes {self.most_body:,}")
+        request = self._request(method, path, body)
         connection, is_old = self._connection()
         try:
             if connection.sock is None:
                 connection.connect()
             was_sent = True
-            return self._on(connection, method, path, given)
+            return self._on(connection, method, request)
         except (ConnectionError, HTTPException) as fault:
             connection.close()
             if not is_old:
@@ -126,14 +126,26 @@ class Talk:
         found.is_sent = was_sent
         return found
 
-    def _on(self, connection: HTTPConnection, method: str, path: str, body: bytes) -> Told:
-        headers = {**self._headers, **({RUN: self.run} if self.run else {}), **({"Content-Type": JSON} if body else {})}
-        connection.request(method, self._begin + path, body or None, headers)
-        with connection.getresponse() as response:
-            whole = response.read()
-        self.run = response.headers.get(RUN, "")
+    def _on(self, connection: HTTPConnection, method: str, request: bytes) -> Told:
+        link: Any = connection.sock
+        link.sendall(request)
+        status, headers, whole, is_last = answers.read(link, method)
+        if is_last:
+            connection.close()
+        self.run = headers.get(RUN, "")
+        media = headers.get("content-type", "").partition(";")[0].strip().lower()
         self._idle.append(connection)
-        return Told(response.status, response.headers.get_content_type(), whole, response.headers.get("retry-after", ""))
+        return Told(status, media, whole, headers.get("retry-after", ""))
+
+    def _request(self, method: str, path: str, body: Optional[Mapping[str, Any]]) -> bytes:
+        """A request, in one piece, so that the server wakes once for it. Raises `TooLarge` where it takes none so long."""
+        given = b"" if body is None else json.dumps(body).encode("ascii")
+        if len(given) > self.most_body:
+            raise TooLarge(f"a request of {len(given):,} bytes, and the server takes {self.most_body:,}")
+        run = f"\r\n{RUN}: {self.run}" if self.run else ""
+        media = "" if body is None else f"\r\nContent-Type: {JSON}"
+        head = f"{method} {self._begin}{path} HTTP/1.1\r\n{self._headers}{run}{media}\r\nContent-Length: {len(given)}\r\n\r\n"
+        return head.encode("latin-1") + given
 
     def call(self, method: str, path: str, body: Optional[Mapping[str, Any]] = None) -> Told:
         """What a request gives; a fault that the server tells is raised."""
@@ -152,6 +164,13 @@ class Talk:
         with suppress(IndexError):  # (another thread may take the last one)
             while True:
                 self._idle.pop().close()
+
+
+def _host_of(parts: SplitResult) -> str:
+    """What a request names as its host."""
+    host = parts.hostname or "localhost"
+    name = f"[{host}]" if ":" in host else host if host.isascii() else host.encode("idna").decode("ascii")
+    return name if parts.port is None else f"{name}:{parts.port}"
 
 
 def part(name: str) -> str:
