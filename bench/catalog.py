@@ -87,7 +87,7 @@ def of_the_library_and_client() -> Iterator[Measurement]:
     yield Measurement("latency", "How long does a commit take by its size, and a question by its version's age?", 4, ("numpy",))
     yield Measurement("journal", "What do commits, openings, bases and posts of a store with a file take, and replicas?", 8,
                       ("starlette", "uvicorn"))
-    yield Measurement("serve", "How long do a server's clients wait, and what does the feed lose?", 3, ("starlette", "uvicorn"))
+    yield Measurement("serve", "How long do a server's clients wait, and what does the feed lose?", 4, ("starlette", "uvicorn"))
     yield Measurement("soak", "Does a server stay as it is while clients hold, go and are killed?", 31, ("starlette", "uvicorn"))
     yield Measurement("quiet", "What can be measured in twelve minutes on a quiet machine?", 12, (),
                       ("rustc", "/usr/bin/time", "igraph", "networkx", "numpy", "starlette", "uvicorn"))

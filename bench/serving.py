@@ -8,16 +8,19 @@ import queue
 import random
 import subprocess
 import sys
+import tempfile
 import threading
 import time
 from multiprocessing import get_context
-from typing import IO, Any, Callable, Dict, Iterator, List, Tuple, cast
+from typing import IO, Any, Callable, Dict, Iterator, List, NamedTuple, Tuple, cast
 
 from bench.measuring import watch
 from bench.places import TOP
 
 NAMES, THREADS = 20_000, 8
 QUESTIONS = ("edge", "has_vertex", "degrees")
+# How a server reads the feed from its standard input.
+FEED = ("-", "--add", "--source", "1", "--target", "2", "--weight", "3", "--time", "4", "--every", "200ms", "--keep", "500000")
 Times = Dict[str, List[float]]
 
 
@@ -45,6 +48,18 @@ def feed(pipe: IO[str], rate: int, is_over: threading.Event) -> None:
             return
 
 
+class Askers(NamedTuple):
+    """So many clients, which pause for so many seconds behind each question; and how many replicas they ask beside the server."""
+
+    count: int
+    pause: float
+    replicas: int = 0
+
+    @property
+    def told(self) -> str:
+        return f"{self.count}{'' if self.pause else ', no pause'}{f', {self.replicas} replicas' if self.replicas else ''}"
+
+
 def ask(url: str, seed: int, pause: float, until: float, times: Times) -> None:
     """A client: notes the seconds that each question took."""
     import misteluk
@@ -66,7 +81,7 @@ def ask(url: str, seed: int, pause: float, until: float, times: Times) -> None:
     store.close()
 
 
-def clients(url: str, count: int, seed: int, pause: float, seconds: float, ready: Any, go: Any,
+def clients(urls: List[str], count: int, seed: int, pause: float, seconds: float, ready: Any, go: Any,
             found: "queue.Queue[Times]") -> None:
     """A process of some clients, each a thread. They ask when it is told to go."""
     import misteluk  # noqa: F401
@@ -74,7 +89,8 @@ def clients(url: str, count: int, seed: int, pause: float, seconds: float, ready
     ready.release()
     go.wait()
     until = time.time() + seconds
-    threads = [threading.Thread(target=ask, args=(url, seed + it, pause, until, times)) for it in range(count)]
+    threads = [threading.Thread(target=ask, args=(urls[it % len(urls)], it, pause, until, times))
+               for it in range(seed, seed + count)]
     for it in threads:
         it.start()
     for it in threads:
@@ -83,12 +99,10 @@ def clients(url: str, count: int, seed: int, pause: float, seconds: float, ready
 
 
 @contextlib.contextmanager
-def server(url: str) -> Iterator["subprocess.Popen[str]"]:
-    """A server whose standard input is the feed; it ends with the block."""
-    words = [sys.executable, "-m", "misteluk", "serve", "-", "--add", "--source", "1", "--target", "2", "--weight", "3", "--time",
-             "4", "--every", "200ms", "--keep", "500000", "--listen", url]
-    process = subprocess.Popen(words, stdin=subprocess.PIPE, stdout=subprocess.PIPE, text=True,
-                               env={**os.environ, "PYTHONPATH": str(TOP / "python")})
+def server(*words: str) -> Iterator["subprocess.Popen[str]"]:
+    """A server; it ends with the block."""
+    process = subprocess.Popen([sys.executable, "-m", "misteluk", "serve", *words], stdin=subprocess.PIPE, stdout=subprocess.PIPE,
+                               text=True, env={**os.environ, "PYTHONPATH": str(TOP / "python")})
     try:
         cast("IO[str]", process.stdout).readline()
         yield process
@@ -102,13 +116,13 @@ def fed_rows(store: Any) -> int:
     return int(store._engine.talk.call("GET", "/v1/stat").json()["feed"]["rows"])
 
 
-def asked(store: Any, url: str, count: int, pause: float, seconds: float) -> Tuple[Times, float]:
-    """The times of so many clients, who ask for so long, and the rows a second that came in meanwhile."""
+def asked(store: Any, urls: List[str], askers: Askers, seconds: float) -> Tuple[Times, float]:
+    """The times of clients who ask for so long, and the rows a second that came in meanwhile."""
     spawn = get_context("spawn")
     found: "queue.Queue[Times]" = spawn.Queue()
     ready, go = spawn.Semaphore(0), spawn.Event()
-    shares = [len(range(it, count, THREADS)) for it in range(min(THREADS, count))]
-    running = [spawn.Process(target=clients, args=(url, it, 100 * at, pause, seconds, ready, go, found))
+    shares = [len(range(it, askers.count, THREADS)) for it in range(min(THREADS, askers.count))]
+    running = [spawn.Process(target=clients, args=(urls, it, 100 * at, askers.pause, seconds, ready, go, found))
                for at, it in enumerate(shares)]
     for it in running:
         it.start()
@@ -122,17 +136,21 @@ def asked(store: Any, url: str, count: int, pause: float, seconds: float) -> Tup
     return {name: [it for some in times for it in some[name]] for name in QUESTIONS}, taken
 
 
-def measured(room: pathlib.Path, rate: int, count: int, pause: float, seconds: float) -> Tuple[Times, float]:
-    """The times of so many clients while a feed of this rate comes in, and its rows a second."""
+def measured(room: pathlib.Path, rate: int, askers: Askers, seconds: float) -> Tuple[Times, float]:
+    """The times of clients while a feed of this rate comes in, and its rows a second."""
     import misteluk
-    url, is_over = f"unix:{room}/socket", threading.Event()
-    with server(url) as process:
+    with tempfile.TemporaryDirectory(dir=room) as name, contextlib.ExitStack() as opened:
+        urls, file, is_over = [f"unix:{name}/socket"], [f"{name}/graph.db"] * (askers.replicas > 0), threading.Event()
+        process = opened.enter_context(server(*file, *FEED, "--listen", urls[0]))
+        for it in range(askers.replicas):
+            urls.append(f"unix:{name}/replica{it}")
+            opened.enter_context(server("--replica-of", *file, "--listen", urls[-1]))
         feeder = threading.Thread(target=feed, args=(process.stdin, rate, is_over))
         feeder.start()
         try:
-            store = misteluk.connect(url)
+            store = misteluk.connect(urls[0])
             time.sleep(2)
-            times, taken = asked(store, url, count, pause, seconds)
+            times, taken = asked(store, urls, askers, seconds)
             store.close()
         finally:
             is_over.set()

@@ -115,8 +115,8 @@ def fuzz(port: int, count: int, seed: int, seconds: float = 30.0,
     return wrong, well
 
 
-if __name__ == "__main__":  # python3 fuzzing.py PORT COUNT SEED: a server that runs elsewhere
-    found, right = fuzz(*map(int, sys.argv[1:4]))
+if __name__ == "__main__":  # python3 fuzzing.py PORT COUNT SEED [TOKEN ..]: a server that runs elsewhere
+    found, right = fuzz(*map(int, sys.argv[1:4]), tokens=sys.argv[4:])
     for it in found[:10]:
         print(*it, sep="\n", end="\n\n")
     print(f"{len(found)} answered by a fault or not at all, {right} answered well")

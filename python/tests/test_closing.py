@@ -124,6 +124,16 @@ class Meanwhile:
         self.assertGreater(len(told[True]), 0)
         self.assertGreater(len(told["closed"]), 0)
 
+    def each_says_so(self, store):
+        """Each call says that its session is closed, whatever was asked before."""
+        for name, is_asked in product(CALLS, (False, True)):
+            session = store.open()
+            if is_asked:
+                asked(name, session)
+            session.close()
+            self.assertRaisesRegex(SessionClosed, "^the session of version 1 is closed", asked, name, session)
+        self.assertRaisesRegex(SessionClosed, "version 1 is closed", session.save, self.room / "saved.csv")
+
 
 class Closing(Meanwhile, Case):
     def test_a_session_is_closed_at_each_step(self):
@@ -134,15 +144,7 @@ class Closing(Meanwhile, Case):
         self.assertEqual(store._engine.open_count, 0)
 
     def test_each_call_of_a_session_that_is_closed(self):
-        """It says so, whatever was asked before."""
-        store = self.store(*ROWS)
-        for name, is_asked in product(CALLS, (False, True)):
-            session = store.open()
-            if is_asked:
-                asked(name, session)
-            session.close()
-            self.assertRaisesRegex(SessionClosed, "^the session of version 1 is closed", asked, name, session)
-        self.assertRaisesRegex(SessionClosed, "version 1 is closed", session.save, self.room / "saved.csv")
+        self.each_says_so(self.store(*ROWS))
 
     def test_a_store_is_closed_at_each_step(self):
         def opened():
@@ -180,6 +182,9 @@ class OfServers(Meanwhile, ServeCase):
     def test_a_connection_is_closed_at_each_step(self):
         for close in (lambda store, session: session.close(), lambda store, session: store.close()):
             self.assertEqual(self.wrong(self.opened, close, step=11), [])
+
+    def test_each_call_of_a_session_that_is_closed(self):
+        self.each_says_so(misteluk.connect(self.server.url))
 
     def test_threads_ask_a_connection_that_is_closed(self):
         self.only_closed(self.opened, lambda store, session: session.close())

@@ -233,7 +233,7 @@ class Interrupts(Case):
         with contextlib.ExitStack() as stack:
             for it in (openings, loading, engine):
                 stack.enter_context(mock.patch.object(it, "MOST_AT_ONCE", SIZE))
-            self.assertEqual(places(lambda: Scene(self.room), Scene.load, lambda it: it.is_right() or True, 8)[1], [])
+            self.assertEqual(places(lambda: Scene(self.room), Scene.load, lambda it: it.is_right() or True, 3)[1], [])
 
 
 class Killed(Case):
@@ -262,7 +262,7 @@ sys.stdin.read()
     def test_a_killed_load(self):
         """Nothing of it is there, or all; and all where that was told."""
         chance, edges = random.Random(3), len({(it % 9_973, it % 997) for it in range(150_000)})
-        for seconds in (None, *(chance.uniform(0.2, 1.5) for _ in range(4))):
+        for seconds in (None, *(chance.uniform(0.2, 1.5) for _ in range(3))):
             path = str(self.room / f"{seconds}.db")
             is_told = b"in\n" in self.killed(path, seconds)
             self.assertEqual(check(path).faults, [])

@@ -268,11 +268,8 @@ class Engines(unittest.TestCase):
             setattr(passing, name, name)
             self.assertEqual(getattr(inner, name), name)
         for name, *given in (("told",), ("flight", 1, True), ("fly", 2), ("landed", 3), ("stat",), ("collect",), ("hold", 4),
-                             ("rebase", 5), ("renew",)):
+                             ("rebase", 5), ("renew",), ("fit", 1, 2, 3), ("close",)):
             self.assertIs(getattr(passing, name)(*given), getattr(inner, name).return_value, name)
-            getattr(inner, name).assert_called_once_with(*given)
-        for name, *given in (("fit", 1, 2, 3), ("close",)):
-            self.assertIsNone(getattr(passing, name)(*given))
             getattr(inner, name).assert_called_once_with(*given)
 
     def test_a_copy(self):

@@ -18,7 +18,7 @@ from support import HERE, Case, as_soon_as
 
 import misteluk
 from misteluk import Edge, SessionClosed, connect, errors
-from misteluk.errors import Busy, NoSeat, NoServer, NotAllowed
+from misteluk.errors import Busy, NoSeat, NoServer
 from misteluk.command.main import main
 from misteluk.serve.limits import ServerLimits
 from misteluk.serve.people import People
@@ -71,28 +71,6 @@ class Clients(ServeCase):
 class Doors(ServeCase):
     """Who gets in."""
 
-    def test_a_token(self):
-        self.serve(token="open sesame".replace(" ", "-"))
-        self.assertEqual(self.ask("/v1/stat").status, 401)
-        self.assertEqual(self.ask("/v1/stat", Authorization="Bearer open-sesamE").status, 401)
-        self.assertEqual(self.ask("/v1/stat", Authorization="Basic open-sesame").status, 401)
-        self.assertEqual(self.ask("/v1/stat", Authorization="Bearer \xe9").status, 401)
-        self.assertEqual(self.ask("/v1/stat", Authorization="Bearer open-sesame").status, 200)
-        self.assertEqual(self.ask("/").status, 200)
-        self.assertRaises(NotAllowed, connect, self.server.url)
-        self.assertRaises(NotAllowed, connect, self.server.url, token="another-one")
-        with connect(self.server.url, token="open-sesame") as of_session, of_session.open() as session:
-            self.assertEqual(session.version, 0)
-
-    def test_pages_of_others_get_nothing(self):
-        """A name of another machine that leads here, and a page of another origin, are told no."""
-        self.fed()
-        port = self.server.address.port
-        for headers in ({"Host": f"evil.example:{port}"}, {"Host": ""}, {"Host": "127.0.0.1.evil.example"}, {"Host": "[::1"},
-                        {"Origin": "http://evil.example"}, {"Origin": "null"}, {"Sec-Fetch-Site": "cross-site"}):
-            self.assertEqual(self.ask("/v1/stat", **headers).status, 403, headers)
-        self.assertEqual(self.ask("/v1/stat", Host=f"localhost:{port}", Origin=f"http://localhost:{port}").status, 200)
-
     def test_other_machines_want_a_token(self):
         with misteluk.Store() as store:
             for listen in ("0.0.0.0:0", "[::]:0", "192.0.2.1:0"):
@@ -102,13 +80,6 @@ class Doors(ServeCase):
             for wrong in ("short", "with space", "päßwörter"):
                 self.assertRaisesRegex(ValueError, "a token has", People, token=wrong)
         self.assertEqual(Address.of("[::1]:7").url, "http://[::1]:7")
-
-    def test_a_token_of_a_file(self):
-        path = self.file("token", "open-sesame\n")
-        os.chmod(path, 0o644)
-        self.assertRaisesRegex(ValueError, "can be read by others", People, path)
-        os.chmod(path, 0o600)
-        self.assertEqual(People(path).known("open-sesame"), ("everyone", "admin"))
 
     def test_a_unix_socket(self):
         """It is its owner's alone from the first; one that a server left is taken, and one that is in use isn't."""

@@ -18,7 +18,7 @@ from serving import FEED, Clock, ServeCase
 from support import TOP, Case, as_soon_as, optional
 
 from misteluk import Columns, connect
-from misteluk.errors import NotAllowed
+from misteluk.errors import NoServer, NotAllowed
 from misteluk.serve import keeping
 from misteluk.serve.keeping import Keeper
 from misteluk.serve.metrics import BOUNDS, Counts
@@ -26,6 +26,7 @@ from misteluk.serve.notify import Manager
 
 SHARE = TOP / "share/serve"
 NGINX, CADDY = shutil.which("nginx") or shutil.which("nginx", path="/usr/sbin"), shutil.which("caddy")
+OPENSSL = shutil.which("openssl")
 PARSER = optional("prometheus_client")
 COLUMNS = Columns(1, 2, weight=3, time=4, default_kind="k")
 
@@ -222,19 +223,29 @@ class Managers(ServeCase):
 
 
 @unittest.skipUnless(SHARE.is_dir(), "share/ is not there")
-class Shared(Case):
-    def options(self):
-        from misteluk.command.options import make_parser
-        commands = next(it for it in make_parser()._actions if it.choices).choices
-        return {name for it in commands["serve"]._actions for name in it.option_strings}
+class Shared(ServeCase):
+    def words_of(self, name):
+        """Those of its command, with places of this test's own."""
+        found = re.search(r"(?m)^ExecStart=.* serve (.*)$|^ *command: (\[.*\])$", (SHARE / name).read_text())
+        text = " ".join(json.loads(found[2]) if found[2] else [found[1]])
+        for place, here in (("/var/lib/misteluk/graph", f"{self.room}/{name}"), ("/etc/misteluk/tokens", self.tokens),
+                            ("/run/secrets/tokens", self.tokens), ("0.0.0.0:7700", "127.0.0.1:0")):
+            text = text.replace(place, here)
+        return [*text.split(), "--listen", "127.0.0.1:0"]
 
-    def test_they_have_options_that_there_are(self):
-        for name, count in (("misteluk.service", 3), ("compose.yaml", 4)):
-            text = (SHARE / name).read_text()
-            command = re.search(r"(?m)^ExecStart=.* serve (.*)$|^ *command: (\[.*\])$", text)
-            words = command[1].split() if command[1] else json.loads(command[2])
-            found = {it for it in words if it.startswith("--")}
-            self.assertEqual((len(found), found - self.options()), (count, set()), name)
+    def test_they_run(self):
+        """What a server answers that was begun so is there after a kill."""
+        self.tokens = self.file("tokens", "fred feed token-of-fred\n")
+        os.chmod(self.tokens, 0o600)
+        for name in ("misteluk.service", "compose.yaml"):
+            for edges in (0, 1):
+                server = self.command(*self.words_of(name))
+                with connect(server.stdout.readline().split()[1], token="token-of-fred") as store:
+                    self.assertEqual(store.stat().edges, edges, name)
+                    store.add("k", "ana", "bob", 5, 1)
+                    store.commit()
+                    server.kill()
+                    server.wait()
 
     @unittest.skipUnless(shutil.which("systemd-analyze"), "systemd-analyze is not there")
     def test_a_unit(self):
@@ -283,11 +294,11 @@ class Proxied(ServeCase):
         with socket.socket() as there:
             return there.connect_ex(("127.0.0.1", self.port)) == 0
 
-    def clients_in_python(self):
-        self.assertRaises(NotAllowed, connect, self.url, token="another-one")
-        with connect(self.url, token="open-sesame") as store:
+    def clients_in_python(self, url):
+        self.assertRaises(NotAllowed, connect, url, token="another-one")
+        with connect(url, token="open-sesame") as store:
             store.load([(f"s{it % 30}", f"t{it // 30}", it, it) for it in range(60_000)], by="set", progress=False)
-            with connect(self.url, token="open-sesame") as of_session, of_session.open() as session:
+            with connect(url, token="open-sesame") as of_session, of_session.open() as session:
                 self.assertEqual(session.edge_count, 60_000)
                 store.add("k", "a", "b", 5, 1)
                 store.commit()
@@ -317,12 +328,29 @@ class Nginx(Proxied):
     def words(self):
         room, lines = pathlib.Path(self.room), self.lines("nginx.conf")
         paths = "".join(f"{name}_temp_path {room}/{name};\n" for name in ("client_body", "proxy", "fastcgi", "uwsgi", "scgi"))
+        listen = f"listen 127.0.0.1:{self.port};\n{self.tls() if OPENSSL else ''}"
         conf = self.file("nginx.conf", f"pid {room}/pid;\nerror_log stderr;\ndaemon off;\nmaster_process off;\nevents {{}}\n"
-                         f"http {{\naccess_log off;\n{paths}server {{\nlisten 127.0.0.1:{self.port};\n{lines}\n}}\n}}\n")
+                         f"http {{\naccess_log off;\n{paths}server {{\n{listen}{lines}\n}}\n}}\n")
         return [NGINX, "-p", str(room), "-c", conf]
 
+    def tls(self):
+        """Lines by which it listens with TLS too, and has a certificate of its own."""
+        words = "req -x509 -newkey ec -pkeyopt ec_paramgen_curve:P-256 -nodes -days 1 -subj /CN=localhost -keyout key -out cert"
+        subprocess.run([OPENSSL, *words.split(), "-addext", "subjectAltName=DNS:localhost"], cwd=self.room, check=True,
+                       stderr=subprocess.DEVNULL, timeout=60)
+        with socket.socket() as free:
+            free.bind(("127.0.0.1", 0))
+            self.safe_port = free.getsockname()[1]
+        return (f"listen 127.0.0.1:{self.safe_port} ssl;\nssl_certificate {self.room}/cert;\n"
+                f"ssl_certificate_key {self.room}/key;\n")
+
+    @unittest.skipUnless(OPENSSL, "openssl is not there")
     def test_clients_in_python(self):
-        self.clients_in_python()
+        """By TLS, and only to a server whose certificate is known."""
+        url = f"https://localhost:{self.safe_port}/graph"
+        self.assertRaisesRegex(NoServer, "CERTIFICATE_VERIFY_FAILED", connect, url, token="open-sesame")
+        with mock.patch.dict(os.environ, {"SSL_CERT_FILE": str(self.room / "cert")}):
+            self.clients_in_python(url)
 
     @unittest.skipUnless(CHROMIUM, "Chromium is not there")
     def test_a_browser(self):
@@ -338,7 +366,7 @@ class Caddy(Proxied):
         return [CADDY, "run", "--config", conf, "--adapter", "caddyfile"]
 
     def test_clients_in_python(self):
-        self.clients_in_python()
+        self.clients_in_python(self.url)
 
     @unittest.skipUnless(CHROMIUM, "Chromium is not there")
     def test_a_browser(self):

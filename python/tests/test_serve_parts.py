@@ -288,6 +288,13 @@ class Bells(unittest.TestCase):
         async def other(fault):
             async with within(60, "why"):
                 raise fault
+
+        async def in_time():
+            async with within(0.01, "why"):
+                pass
+            await asyncio.sleep(0.03)
+            return "not late any more"
+        self.assertEqual(asyncio.run(in_time()), "not late any more")
         with self.assertRaises(Full) as caught:
             asyncio.run(late())
         self.assertEqual((caught.exception.word, str(caught.exception), caught.exception.after), ("TooLong", "why", 1))

@@ -123,22 +123,15 @@ class Readers(unittest.TestCase):
                 else:
                     self.assertEqual((reader.text(), reader._at), wanted)
 
-    def test_each_sign_is_read_a_few_times(self):
-        """Also where what ends within a window isn't seen at once, since texts have brackets and commas."""
-        size, real = 1 << 18, bodies._list_of
-        for part in (f'["add","k","a],","{"x" * 80}",1,1],', '{"a":"],xxxxxx"},', '"],,",', '"],",', "[],"):
-            data, read = filled('{"x": [', part, '5], "rows": []}', size), []
-            with mock.patch.object(bodies, "_list_of", lambda text: read.append(len(text)) or real(text)):
-                self.assertEqual(list(bodies.rows_of_json(data)), [])
-            self.assertLess(sum(read), 4 * size, part)
-
     def test_many_values(self):
         """Arrays that aren't rows have so many values, however they are nested."""
-        for data in (filled('{"ends": [', "5,", "5]}", 1 << 18), filled('{"ends": [', "[[],[],[[]]],", "5]}", 1 << 20),
-                     filled('{"ends": {', '"a":{},', '"b":5}}', 1 << 21)):
-            self.assertRaisesRegex(bodies.TooLarge, "at most 65,536 values: ask several times", bodies.loaded, data)
-        for part, count in (("5,", 65_535), ('["k","a","b"],', 65_535)):
-            self.assertEqual(len(bodies.loaded(b'{"ends": [%s5]}' % (part.encode() * count))["ends"]), 65_536)
+        with mock.patch.object(bodies, "MOST_VALUES", 4_096):
+            for data in (filled('{"ends": [', "5,", "5]}", 1 << 17), filled('{"ends": [', "[[],[],[[]]],", "5]}", 1 << 17),
+                         filled('{"ends": {', '"a":{},', '"b":5}}', 1 << 18)):
+                self.assertRaisesRegex(bodies.TooLarge, "at most 4,096 values: ask several times", bodies.loaded, data)
+            for part in (b"5,", b'["k","a","b"],'):
+                found = bodies.loaded(b'{"ends": [%s5]}' % (part * 4_095) + b" " * (1 << 16))
+                self.assertEqual(len(found["ends"]), 4_096)
         self.assertEqual(len(bodies.loaded(filled('{"operations": "', "[{", '"}', 1 << 21))["operations"]), (1 << 21) - 18)
 
     def test_what_is_too_long(self):
@@ -159,9 +152,7 @@ class Posts(ServeCase):
     """A server as a process, which is asked while 8 MB come: others wait at most 50 ms for that, whatever it is. (A busy machine
     delays them too. So this is asked of the longest step in which no other thread had its turn, in time of a processor.)"""
 
-    STATUSES = {"CSV": 200, "CSV of other letters": 400, "rows": 200, "empty rows": 400, "one text": 413, "brackets": 400,
-                "rows with brackets": 200, "a long text of pairs": 400, "a batch of lists": 413, "a batch of lines": 400,
-                "a question of ends": 413, "a question of a long name": 400}
+    STATUSES = {"CSV": 200, "empty rows": 400, "a batch of lines": 400}
 
     def test_others_are_answered_meanwhile(self):
         asker = waiting.Asker()

@@ -75,6 +75,12 @@ class BySteps(Case):
                 self.assertTrue(it._thread.daemon)
                 it.close()
             self.assertEqual((ran.call_args, it.first.close.call_count), (mock.call("a board"), count))
+        for is_over, count in ((True, 0), (False, 1)):
+            it = self.replica()
+            it._over = mock.Mock(**{"is_set.side_effect": [False, is_over, True]})
+            with mock.patch.object(it, "_step", side_effect=KeyError), mock.patch.object(log, "fault") as logged:
+                it._run("a board")
+            self.assertEqual(logged.call_count, count, "what goes wrong at its end is no fault")
 
 
 class Replicas(ServeCase):

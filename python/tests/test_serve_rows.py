@@ -2,7 +2,9 @@
 import asyncio
 import json
 import logging
+import socket
 import unittest
+from http.client import HTTPException
 from unittest import mock
 
 from serving import Clock, HAS_PACKAGES, NO_PACKAGES
@@ -192,6 +194,17 @@ class Talks(unittest.TestCase):
                 except errors.NoServer:
                     found = "a fault"
             self.assertEqual(found, status if status < 400 else "a fault")
+
+    def test_what_ends_a_connection(self):
+        """Whatever goes wrong on it."""
+        for fault, told in ((ConnectionError("why"), errors.NoServer), (HTTPException(), errors.NoServer),
+                            (socket.timeout(), errors.NoAnswer), (OSError("why"), errors.NoServer),
+                            (KeyboardInterrupt(), KeyboardInterrupt)):
+            talk, connection = Talk("http://h:7"), mock.Mock()
+            with mock.patch.object(talk, "_connection", return_value=(connection, False)), \
+                    mock.patch.object(talk, "_on", side_effect=fault):
+                self.assertRaises(told, talk.ask, "GET", "/x")
+            connection.close.assert_called_once_with()
 
     def test_what_became_of_a_server(self):
         talk = Talk("http://h:7")

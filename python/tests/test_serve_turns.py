@@ -1,4 +1,4 @@
-"""Posts that wait are answered together, by steps; and those that wait on a loop are late by one timer."""
+"""Posts that wait are answered together, by steps."""
 import asyncio
 import unittest
 from concurrent.futures import Future
@@ -13,7 +13,7 @@ from misteluk.values.answers import Commit
 HAVE_SERVER = unittest.skipUnless(optional("starlette") and optional("uvicorn"), "starlette or uvicorn is not there")
 if optional("starlette"):
     from misteluk.serve.board import Full
-    from misteluk.serve.flow import WAITING, Line, line_of, within
+    from misteluk.serve.flow import WAITING
     from misteluk.serve.limits import ServerLimits
     from misteluk.serve.turns import LEAST, PART, Turns
 
@@ -206,31 +206,6 @@ class ByTurns(Case):
             with self.assertRaisesRegex(SessionClosed, "given up"):
                 await lost
         self.run_by(play)
-
-
-@HAVE_SERVER
-class Lines(Case):
-    def test_who_is_late(self):
-        """Each at its own time, by one timer, whoever leaves before."""
-        async def waits(seconds, enters, leaves, met):
-            await asyncio.sleep(enters)
-            try:
-                async with within(seconds, "why"):
-                    await asyncio.sleep(leaves)
-                met.append((enters, "left"))
-            except Full:
-                met.append((enters, "late"))
-
-        async def main():
-            loop, met = asyncio.get_running_loop(), []
-            with mock.patch.object(Line, "_look", autospec=True, side_effect=Line._look) as looked:
-                await asyncio.gather(*(waits(0.3, *it, met) for it in ((0.0, 9), (0.01, 0.05), (0.1, 9), (0.15, 0.1), (0.2, 9))),
-                                     waits(5, 0.02, 0.1, met))
-            self.assertEqual(met, [(0.01, "left"), (0.02, "left"), (0.15, "left"), (0.0, "late"), (0.1, "late"), (0.2, "late")])
-            self.assertLessEqual(looked.call_count, 5)
-            self.assertEqual((line_of(0.3)._until, line_of(5)._until, line_of(0.3) is line_of(5)), ({}, {}, False))
-            self.assertGreater(loop.time(), 0)
-        asyncio.run(main())
 
 
 if __name__ == "__main__":

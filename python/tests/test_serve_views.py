@@ -69,13 +69,16 @@ class Views(ServeCase):
         self.assertEqual(browser.logged, [])
 
     def test_a_colleague_s_version(self):
-        """An address names the version beside, whoever holds it; one that nobody holds any more is said to be gone."""
+        """An address names the version beside, which another browser holds; one that nobody holds any more is said to be gone."""
         self.fed()
-        session = self.post("/v1/sessions").json["session"]
+        hers = self.open()
+        hers.see("document.getElementById('hold').click()")
+        hers.wait_for("document.getElementById('held').textContent.includes('this page')")
         self.post("/v1/rows", {"rows": [["add", "transfer", "zed", "funnel", 7, 5]]})
         browser = self.open("#vertex=funnel&hops=1&beside=1")
         self.assertIn("Version 1 beside version 2", self.page(browser, "funnel"))
-        self.ask(f"/v1/sessions/{session}", "DELETE")
+        hers.see("document.querySelector('#held button').click()")
+        as_soon_as(lambda: [it["version"] for it in self.ask("/v1/stat").json["held"]] == [2])
         browser.see("location.hash = '#vertex=ana&hops=1&beside=1'")
         browser.wait_for("document.getElementById('fault').textContent.includes(\"version 1 isn't held\")")
 

@@ -18,8 +18,6 @@ Choices:
   C that let other threads run. Where that is killed, another one reads a file again from its beginning, and passes over the lines
   that are in: so it needs no place that every form and encoding of a feed would have to tell.
 - Little questions are answered on the loop; so are tables of a version, once one of them was made. A client sorts by itself.
-- Those in the form in which the client writes them are answered where their bytes arrive: what uvicorn makes of each request
-  takes more time than their answers. uvicorn reads all others, so no rule of HTTP stands here a second time.
 - A batch has a number, so one whose answer was lost is sent again and applied once.
 - Questions over the whole graph have threads of their own, so a question for one edge doesn't wait for them. The server sets
   Python's switch between threads to half a millisecond; at the usual five the feed would have most turns.

@@ -11,15 +11,14 @@ import io
 import json
 import re
 from json import JSONDecodeError, decoder
-from typing import Any, Iterator, List, Optional, Sequence, Tuple
+from typing import Any, Iterator, List, Sequence, Tuple
 
 from .limits import LITTLE, MOST_ROWS, MOST_VALUES, TooLarge
 from ..values.texts import text_of
 
-# How many signs are looked at by one step, and how many one row, or a value within an array, may have.
-WINDOW, LONGEST = 1 << 14, 1 << 18
-# How many of a text are looked at first: most are short.
-SHORT = 64
+# How many signs of a text are looked at by one step, at how many one looks first, since most values are shorter, and how many
+# a row, or another value within an array, may have.
+WINDOW, SHORT, LONGEST = 1 << 14, 1 << 9, 1 << 18
 # How many arrays and objects those may have that aren't a post's rows, for each value. (Python's looks for cycles go through
 # all of them.)
 NESTED = 4
@@ -40,10 +39,6 @@ class Reader:
 
     def __init__(self, text: str) -> None:
         self._text, self._at = text, 0
-        # The part in which a value was looked for last, and where it begins.
-        self._window, self._begin = "", 0
-        # Up to where values are read one by one, since several weren't seen at once.
-        self._alone = 0
         # How many arrays and objects were begun, at most.
         self._nested = 0
 
@@ -61,45 +56,29 @@ class Reader:
     def value(self) -> Any:
         """The value that stands here. Raises `TooLarge` where it is longer than a row may be."""
         self.sign()
-        for size in (0, WINDOW, LONGEST):
-            if size:
-                self._begin, self._window = self._at, self._text[self._at:self._at + size]
-            is_whole = self._begin + len(self._window) >= len(self._text)
+        for size in (SHORT, LONGEST):
+            window = self._text[self._at:self._at + size]
             try:
-                found, end = _decoded(self._window, self._at - self._begin)
+                found, end = _decoded(window)
             except JSONDecodeError as fault:
-                if is_whole or size == LONGEST and not _is_cut(fault, size):
-                    raise JSONDecodeError(fault.msg, "", self._begin + fault.pos) from None
+                if len(window) < size or size == LONGEST and not _is_cut(fault, size):
+                    raise JSONDecodeError(fault.msg, "", self._at + fault.pos) from None
                 continue
-            if is_whole or end < len(self._window):
-                self._at = self._begin + end
+            if end < size:  # (else it may be cut)
+                self._at += end
                 return found
         raise TooLarge(f"a row, or another value within an array, has at most {LONGEST:,} signs")
 
-    def values(self) -> Iterator[List[Any]]:
-        """The values of the array that stands here, some at once."""
+    def values(self) -> Iterator[Any]:
+        """The values of the array that stands here."""
         self.take("[", "Expecting value")
         is_more = self.sign() != "]"
         while is_more:
-            yield self._some()
+            yield self.value()
             is_more = self.sign() == ","
             if is_more:
                 self._at += 1
         self.take("]", "Expecting ',' delimiter")
-
-    def _some(self) -> List[Any]:
-        """Values from here on: those that end in the window, where it is seen that way, and else one. (What is cut within a text,
-        an array or an object is no JSON: no other values are read than those that stand there.) Where it isn't seen, it is not
-        tried again before a window has passed: else each value would cost as much as a window."""
-        for size in (WINDOW, WINDOW // 16) if self._at >= self._alone else ():
-            window = self._text[self._at:self._at + size]
-            for end in (window.rfind("],") + 1, window.rfind(",")):
-                found = _list_of(window[:end]) if end > 0 else None
-                if found:
-                    self._at += end
-                    return found
-            self._alone = self._at + WINDOW
-        return [self.value()]
 
     def names(self) -> Iterator[str]:
         """The names of the object that stands here; whoever has one reads its value."""
@@ -118,10 +97,11 @@ class Reader:
 
     def text(self) -> str:
         """The text that stands here, however long it is."""
-        begin, parts, step = self._at, [], SHORT
+        parts: List[str] = []
+        begin = self._at
         self._at += 1
         while True:
-            window, step = self._text[self._at:self._at + step], WINDOW
+            window = self._text[self._at:self._at + (WINDOW if parts else SHORT)]
             end = _signs_of(window)
             try:
                 told, size = _scanned(f'{window[:end]}"' if end else window, 0, True)
@@ -142,8 +122,8 @@ class Reader:
             return {name: self.whole() for name in self.names()}
         if sign == "[":
             found: List[Any] = []
-            for some in self.values():
-                found += some
+            for it in self.values():
+                found.append(it)
                 self._must_be_little(len(found), begin)
                 begin = self._at
             return found
@@ -154,30 +134,9 @@ class Reader:
         if count > MOST_VALUES or self._nested > NESTED * MOST_VALUES:
             raise TooLarge(f"an array has at most {MOST_VALUES:,} values: ask several times")
 
-    def skip(self) -> None:
-        """Passes over the value that stands here."""
-        sign = self.sign()
-        if sign == "{":
-            for _ in self.names():
-                self.skip()
-        elif sign == "[":
-            for _ in self.values():
-                pass
-        else:
-            self.whole()
-
     def end(self) -> None:
         if self.sign():
             raise JSONDecodeError("Extra data", "", self._at)
-
-
-def _list_of(text: str) -> Optional[List[Any]]:
-    """The values of a text in which they are parted by commas; `None` where that isn't JSON."""
-    try:
-        found: List[Any] = json.loads(f"[{text}]")
-        return found
-    except ValueError:
-        return None
 
 
 def _signs_of(window: str) -> int:
@@ -227,20 +186,21 @@ def rows_of_json(body: bytes) -> Iterator[Row]:
     with told_as_json():
         reader = Reader(_text_of(body))
         if reader.sign() != "{":
-            reader.skip()
+            if reader.sign() != "[":
+                reader.value()  # (of what is no JSON that is told)
             raise ValueError(ROWS)
         count = None
         for name in reader.names():
             if name != "rows":
-                reader.skip()
+                reader.whole()
                 continue
             if count is not None or reader.sign() != "[":
                 raise ValueError(ROWS)
             count = 0
-            for some in reader.values():
-                count += len(some)
+            for it in reader.values():
+                count += 1
                 _must_be_few(count)
-                yield from map(_row_of, some)
+                yield _row_of(it)
         reader.end()
         if count is None:
             raise ValueError(ROWS)

@@ -99,7 +99,7 @@ def _peer_of(transport: Any) -> Optional[str]:
 _TOLD = json.dumps(wire.fault("Full", "this server has no room for one more connection", 1)).encode("ascii") + b"\n"
 REFUSED = (b"HTTP/1.1 503 Service Unavailable\r\ncontent-type: application/json\r\nretry-after: 1\r\nconnection: close\r\n"
            b"content-length: %d\r\n\r\n%s" % (len(_TOLD), _TOLD))
-# What uvicorn's protocol gives, which isn't there where this is read: `direct.made` joins the two.
+# What uvicorn's protocol gives, which isn't there where this is read: `protocol` joins the two.
 _Protocol: Any = object
 
 
@@ -137,3 +137,9 @@ class AtDoor(_Protocol):  # type: ignore[misc]
         self.begun = self.begun or now
         left = max(self.begun + self.door.first - now, 0.0)
         self.timeout_keep_alive_task = self.loop.call_later(left, self.transport.abort)
+
+
+def protocol(door: Door) -> type:
+    """What uvicorn makes for each connection: its own protocol, behind a door."""
+    from uvicorn.protocols.http.auto import AutoHTTPProtocol
+    return type("Connection", (AtDoor, AutoHTTPProtocol), {"door": door})

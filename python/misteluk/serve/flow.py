@@ -9,7 +9,6 @@ from concurrent.futures import Future, ThreadPoolExecutor
 from contextlib import contextmanager
 from types import TracebackType
 from typing import Any, Awaitable, Callable, Dict, Iterator, List, MutableMapping, Optional, Set, Tuple, Type, TypeVar
-from weakref import WeakKeyDictionary
 
 from starlette.responses import Response
 
@@ -33,66 +32,25 @@ def as_json(value: Dict[str, Any], status: int = 200, headers: Optional[Dict[str
     return Response(json.dumps(value).encode("ascii") + b"\n", status, headers, wire.JSON)
 
 
-class Line:
-    """Those that wait on a loop, each for so many seconds at most: who began first is late first, and one timer is enough."""
-
-    def __init__(self, seconds: float) -> None:
-        self._seconds, self._is_watched = seconds, False
-        self._until: "Dict[within, float]" = {}
-
-    def enter(self, it: "within") -> None:
-        self._until[it] = asyncio.get_running_loop().time() + self._seconds
-        if not self._is_watched:
-            self._watch(self._until[it])
-
-    def leave(self, it: "within") -> None:
-        self._until.pop(it, None)
-
-    def _watch(self, until: float) -> None:
-        self._is_watched = True
-        asyncio.get_running_loop().call_at(until, self._look)
-
-    def _look(self) -> None:
-        """Ends those that are late, and looks again as soon as the next one may be."""
-        self._is_watched, now = False, asyncio.get_running_loop().time()
-        for it in [it for it, until in self._until.items() if until <= now]:
-            self.leave(it)
-            it.end()
-        if self._until:
-            self._watch(next(iter(self._until.values())))
-
-
-# The lines of each loop by their seconds.
-_LINES: "WeakKeyDictionary[asyncio.AbstractEventLoop, Dict[float, Line]]" = WeakKeyDictionary()
-
-
-def line_of(seconds: float) -> Line:
-    """The line of this loop for so many seconds."""
-    lines = _LINES.setdefault(asyncio.get_running_loop(), {})
-    if seconds not in lines:
-        lines[seconds] = Line(seconds)
-    return lines[seconds]
-
-
 class within:
-    """What is awaited here ends within so many seconds, or by `Full`. (`asyncio.wait_for` makes a task of it each time, and a
-    timer for each request costs as much as all else of a short wait.)"""
+    """What is awaited here ends within so many seconds, or by `Full`. (Python has `asyncio.timeout` from 3.11 on only, and
+    `asyncio.wait_for` makes a task of what it awaits.)"""
 
     def __init__(self, seconds: float, reason: str) -> None:
         self._seconds, self._reason, self._is_late = seconds, reason, False
 
     async def __aenter__(self) -> None:
-        self._task, self._line = asyncio.current_task(), line_of(self._seconds)
-        self._line.enter(self)
+        self._task = asyncio.current_task()
+        self._timer = asyncio.get_running_loop().call_later(self._seconds, self._end)
 
-    def end(self) -> None:
+    def _end(self) -> None:
         self._is_late = True
         if self._task is not None:
             self._task.cancel()
 
     async def __aexit__(self, kind: Optional[Type[BaseException]], fault: Optional[BaseException],
                         trace: Optional[TracebackType]) -> None:
-        self._line.leave(self)
+        self._timer.cancel()
         if self._is_late and isinstance(fault, asyncio.CancelledError):
             raise Full("TooLong", self._reason, 1) from None
 

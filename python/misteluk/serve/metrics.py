@@ -35,11 +35,7 @@ class Counts:
         key = call, str(status)
         self.requests[key] = self.requests.get(key, 0) + 1
         if call not in WAITING:
-            self.spread(call).add(seconds)
-
-    def spread(self, call: str) -> Spread:
-        """The spread of a call, which those keep who answer it often."""
-        return self.answers.setdefault(call, Spread())
+            self.answers.setdefault(call, Spread()).add(seconds)
 
     def refuse(self, word: str) -> None:
         self.refused[word] = self.refused.get(word, 0) + 1

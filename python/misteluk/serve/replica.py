@@ -77,7 +77,8 @@ class Replica:
                 is_more, self._fault = self._step(board), ""
                 pause = 0.0 if is_more else PAUSE
             except Exception as fault:
-                self._failed(fault)
+                if not self._over.is_set():  # (else it ends, and its store may be closed by now)
+                    self._failed(fault)
                 pause = AFTER_A_FAULT
             self._over.wait(pause)
 

@@ -11,7 +11,7 @@ from typing import TYPE_CHECKING, Any, Callable, List, NamedTuple, Optional
 
 from . import log
 from .board import Board
-from .door import Door, room_for
+from .door import Door, protocol, room_for
 from .feeding import Feeding
 from .keeping import Keeper
 from .limits import LOOPBACK, USUAL, ServerLimits
@@ -140,7 +140,6 @@ class Server:
         except ImportError as fault:
             self._leave()
             raise Missing(f"{str(fault.name).partition('.')[0]}", "a server") from None
-        from .direct import Responder, protocol
         from .ending import made
         from .health import Health
         from .gate import Gate, Run
@@ -149,8 +148,8 @@ class Server:
         health = Health(self.board, self.feeding, self._keeper, self.counts, self.door, self.replica)
         api = Api(self.board, self.feeding, self.limits, run, self._keeper, health, self.people)
         gate = Gate(api.shortcut(), self.people, bool(self.address.path), run, self.door, self.counts)
-        config = uvicorn.Config(gate, http=protocol(Responder(gate, api.answers, self.limits), self.door), log_level="critical",
-                                access_log=False, lifespan="off", server_header=False, proxy_headers=False, backlog=AT_ONCE,
+        config = uvicorn.Config(gate, http=protocol(self.door), log_level="critical", access_log=False,
+                                lifespan="off", server_header=False, proxy_headers=False, backlog=AT_ONCE,
                                 timeout_keep_alive=int(self.limits.idle) + 5)
         return made(uvicorn.Server, config, self._end, self._begin), api
 

@@ -144,7 +144,6 @@ class Talk:
             raise TooLarge(f"a request of {len(given):,} bytes, and the server takes {self.most_body:,}")
         run = f"\r\n{RUN}: {self.run}" if self.run else ""
         media = "" if body is None else f"\r\nContent-Type: {JSON}"
-        # (the length is last: `direct` knows a head that comes again)
         head = f"{method} {self._begin}{path} HTTP/1.1\r\n{self._headers}{run}{media}\r\nContent-Length: {len(given)}\r\n\r\n"
         return head.encode("latin-1") + given
 
