@@ -162,7 +162,8 @@ class Named(unittest.TestCase):
         for faulty, failed, left_out in (
                 ("tools/test_parts", "parts", ()), ("tools/test_bench.py", "bench", ()), ("tools/test_library", "c", ()),
                 ("python/check", "python", ()), ("examples/check", "examples", ()),
-                ("./stinger", "library, program, python (not run), bench (not run), c (not run), examples (not run)", after_both)):
+                ("./stinger", "library, program, python (not run), bench (not run), c (not run), examples (not run)",
+                 after_both)):
             done = self.gate("--unproved", faulty=faulty)
             said = done.stdout.splitlines()
             self.assertEqual((done.returncode, said[-1]), (1, f"failed: {failed}"))
