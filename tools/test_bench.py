@@ -285,15 +285,15 @@ class Compared(unittest.TestCase):
 
     def test_gap(self) -> None:
         head, *rows = self.table("gap", "--only", "kron", "--scale", "7", "--sources", "2")
-        self.assertEqual(head[1:], ["bfs", "cc", "load", "bytes"])
-        self.assertEqual([it[0] for it in rows[:2]], ["GAP's in C++", "library"])
+        self.assertEqual(head[:3], ["2^7 vertices", "GAP's in C++", "library"])
+        self.assertEqual([it[0] for it in rows], [f"kron: {it}" for it in ("bfs", "cc", "load", "bytes an edge")])
         for row in rows:
-            self.assertTrue(all(re.fullmatch(r"[\d.,]+ (s|ms|µs|bytes an edge)", it) for it in row[1:]), row)
+            self.assertTrue(all(re.fullmatch(r"[\d.,]+( s| ms| µs)?", it) for it in row[1:]), row)
 
     def test_stream(self) -> None:
         table = self.table("stream", "--edges", "300", "--scale", "7", "--sizes", "1", "100")
-        self.assertEqual([it[0] for it in table], [word for shape in ("rmat", "uniform") for word in (
-            f"{shape}: 3,000 operations, a batch", "1", "100")])
+        self.assertEqual([it[0] for it in table[1:]], [f"{shape}, {size}" for shape in ("rmat", "uniform") for size in (1, 100)])
+        self.assertEqual({len(it) for it in table}, {7})
 
     def test_graphs(self) -> None:
         """Each edge has a twin, none is a loop or there twice, and vertices have numbers as they come."""

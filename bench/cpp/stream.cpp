@@ -100,20 +100,23 @@ int main(int count, char **words) {
     graph.apply(log, 0, first);
 
     std::atomic<bool> is_over{false};
-    size_t scans = 0;
-    double begun = now(), scanned = 0;
+    std::atomic<size_t> scans{0};
+    double scanned = 0;
     std::thread reader;
     if (std::stoul(words[5])) {
         reader = std::thread([&] {
             for (; !is_over; scans++) graph.degrees();
-            scanned = now() - begun;
+            scanned = now();
         });
+        while (!scans) std::this_thread::yield(); // (it is at work before the first batch)
     }
+    size_t before = scans;
+    double begun = now();
     for (size_t at = first; at < length; at += batch) graph.apply(log, at, std::min(at + batch, length));
     double spent = now() - begun;
     is_over = true;
     if (reader.joinable()) reader.join();
-    std::printf("operations %zu %.9f\nscans %zu %.9f\n", length - first, spent, scans, scanned);
+    std::printf("operations %zu %.9f\nscans %zu %.9f\n", length - first, spent, scans - before, scanned - begun);
     std::FILE *out = std::fopen(words[6], "wb");
     if (!out) stop("can't write");
     write_column(out, graph.degrees());

@@ -22,7 +22,7 @@ import pathlib
 import subprocess
 import sys
 from statistics import median
-from typing import Any, Callable, Dict, List, Tuple
+from typing import Any, Callable, Dict, Iterator, List, Optional, Tuple
 
 import numpy
 
@@ -32,9 +32,10 @@ from bench.measuring import in_turns, stop
 from bench.places import TOP
 from bench.stores.kernels import GAP, GRAPHS, PACKAGES, Found, Graph, asked, drawn, plain
 
-# What is told, and how.
-FIGURES: Dict[str, Callable[[float], str]] = {"bfs": tables.seconds, "cc": tables.seconds, "load": tables.seconds,
-                                              "bytes": lambda size: f"{size:,.0f} bytes an edge"}
+# What is told of each graph, by its name among the figures.
+FIGURES: Dict[str, Tuple[str, Callable[[Optional[float]], str]]] = {
+    "bfs": ("bfs", tables.seconds), "cc": ("cc", tables.seconds), "load": ("load", tables.seconds),
+    "bytes": ("bytes an edge", lambda size: tables.ABSENT if size is None else f"{size:,.0f}")}
 
 
 def options(parser: argparse.ArgumentParser) -> None:
@@ -69,16 +70,17 @@ def compare(graph: str, found: Dict[str, List[Found]]) -> None:
                 stop(f"{graph}: {name} has other answers than GAP's algorithms")
 
 
-def measured(name: str, words: argparse.Namespace, room: pathlib.Path) -> Tuple[str, Dict[str, List[Found]]]:
+def rows(name: str, packages: List[str], words: argparse.Namespace, room: pathlib.Path) -> Iterator[List[str]]:
+    """A row of each figure of a graph."""
     graph, file = drawn(name, words.scale), room / f"{name}.npz"
     numpy.savez(file, **graph._asdict())
-    works: Dict[str, Callable[[], Any]] = {GAP: lambda: plain(graph, sources_of(graph, words.sources), room)}
-    for it in PACKAGES:
-        if it not in words.without and (it == "library" or is_here(it)):
-            works[it] = functools.partial(in_own_process, it, file, words.sources)
+    works: Dict[str, Callable[[], Any]] = {GAP: lambda: plain(graph, sources_of(graph, words.sources), room), **{
+        it: functools.partial(in_own_process, it, file, words.sources) for it in packages}}
+    print(f"{name}: {graph.vertices:,} vertices, {len(graph.sources):,} edges", file=sys.stderr)
     found = in_turns(works, words.turns)
     compare(name, found)
-    return f"{name}: {graph.vertices:,} vertices, {len(graph.sources):,} edges", found
+    for what, (told, show) in FIGURES.items():
+        yield [f"{name}: {told}", *(show(median([it[what] for it in found[each]])) for each in works)]
 
 
 def measure(words: argparse.Namespace, room: pathlib.Path) -> None:
@@ -88,8 +90,6 @@ def measure(words: argparse.Namespace, room: pathlib.Path) -> None:
             graph = Graph(kept["sources"], kept["targets"], int(kept["vertices"]))
         print(json.dumps(asked(name, graph, sources_of(graph, words.sources))))
         return
-    for sort in words.only:
-        told, found = measured(sort, words, room)
-        tables.show([told, *FIGURES], ([name, *(show(median([it[what] for it in turns])) for what, show in FIGURES.items())]
-                                       for name, turns in found.items()))
-        print(flush=True)
+    packages = [it for it in PACKAGES if it not in words.without and (it == "library" or is_here(it))]
+    tables.show([f"2^{words.scale} vertices", GAP, *packages],
+                (row for name in words.only for row in rows(name, packages, words, room)))

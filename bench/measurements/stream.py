@@ -26,6 +26,7 @@ from bench.measuring import in_turns, stop
 from bench.stores.updates import STORES, Log, Spent, log_of
 
 SHAPES, SIZES = ("rmat", "uniform"), (1, 100, 4_096, 65_536)
+WHAT = "thousands a second", "with a reader", "its scans a second"
 # A store, and whether somebody scans meanwhile.
 Way = Tuple[str, bool]
 
@@ -55,13 +56,11 @@ def row(log: Log, size: int, turns: int, room: pathlib.Path) -> List[str]:
         cells += [rate([it.operations for it in found[name, scans]], [it.seconds for it in found[name, scans]]) / 1_000
                   for scans in (False, True)]
         cells.append(rate([it.scans for it in found[name, True]], [it.scanned for it in found[name, True]]))
-    return list(map("{:,.0f}".format, cells))
+    return [f"{it:,.0f}" if it >= 100 else f"{it:.3g}" for it in cells]
 
 
 def measure(words: argparse.Namespace, room: pathlib.Path) -> None:
-    head = [f"{name}{what}" for name in STORES for what in (", thousands a second", " beside a reader", ", scans a second")]
-    for shape in SHAPES:
-        log = log_of(shape, words.scale, words.edges)
-        tables.show([f"{shape}: {len(log.sorts):,} operations, a batch", *head],
-                    ([tables.count(size), *row(log, size, words.turns, room)] for size in words.sizes))
-        print(flush=True)
+    logs = {shape: log_of(shape, words.scale, words.edges) for shape in SHAPES}
+    tables.show(["operations a batch", *(f"{name}: {what}" for name in STORES for what in WHAT)],
+                ([f"{shape}, {size:,}", *row(log, size, words.turns, room)]
+                 for shape, log in logs.items() for size in words.sizes))

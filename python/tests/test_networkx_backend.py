@@ -19,7 +19,7 @@ from graphs import Play
 from of_networkx import own, plain, said
 from support import TOP, Case, optional
 
-from misteluk import Session, errors
+from misteluk import Session, Units, errors
 from misteluk.engine.held import LibraryVersion
 
 networkx = optional("networkx")
@@ -129,9 +129,11 @@ class Backend(Case):
             self.assertEqual(networkx.single_source_shortest_path_length(graph, "a"), {"a": 0, "b": 1, "c": 2})
             self.assertEqual(list(networkx.weakly_connected_components(graph)), [{"a", "b", "c"}, {"d", "e"}])
             self.assertFalse(networkx.is_weakly_connected(graph))
-        self.assertEqual(asked, ["levels", "components", "components"])
+            self.chosen([])
+            self.assertEqual(networkx.number_weakly_connected_components(graph, backend="misteluk"), 2)
+        self.assertEqual(asked, ["levels", "components", "components", "components"])
         with mock.patch.object(Session, "cores", side_effect=errors.NoMemory("it was asked")):
-            self.assertRaises(errors.NoMemory, networkx.core_number, graph)
+            self.assertRaises(errors.NoMemory, networkx.core_number, graph, backend="misteluk")
 
     @unittest.skipUnless(scipy, "scipy is not there")
     def test_a_matrix_makes_no_dict_of_an_edge(self):
@@ -140,6 +142,17 @@ class Backend(Case):
         with mock.patch.object(graphs, "adjacency", side_effect=AssertionError):
             self.assertEqual(networkx.to_scipy_sparse_array(graph).toarray().tolist(), [[0, 2, 0], [0, 0, 3], [4, 0, 0]])
             self.assertEqual(len(networkx.pagerank(graph)), 3)
+            self.chosen([])
+            self.assertEqual(len(networkx.pagerank(graph, backend="misteluk")), 3)
+
+    @unittest.skipUnless(scipy, "scipy is not there")
+    def test_a_matrix_of_decimals(self):
+        store = self.store(units=Units(weight_scale=100))
+        store.load([("a", "b", 0.1, 0, "k"), ("b", "c", 2, 0, "k"), ("b", "c", "1.23", 0, "l")], by="set")
+        for kind in ("k", None):
+            graph = store.open().graph(kind)
+            found, right = (networkx.to_scipy_sparse_array(graph, backend=it) for it in ("misteluk", "networkx"))
+            self.assertEqual((found.toarray().tolist(), found.dtype), (right.toarray().tolist(), right.dtype))
 
     def test_what_is_left_to_networkx(self):
         """Chosen for one call, the store says that it can't; chosen for all, networkx answers, or says what is wrong."""
