@@ -87,7 +87,7 @@ def of_the_library_and_client() -> Iterator[Measurement]:
     yield Measurement("latency", "How long does a commit take by its size, and a question by its version's age?", 4, ("numpy",))
     yield Measurement("gap", "How long do bfs and components take over GAP's graphs, compared with GAP's own algorithms?", 12,
                       ("numpy", "g++"), ("igraph", "graph_tool", "scipy", "networkx"))
-    yield Measurement("stream", "How many updates a second come in, alone and during scans, compared with plain maps?", 8,
+    yield Measurement("stream", "How many updates a second come in, alone and during scans, compared with plain maps?", 4,
                       ("numpy", "g++"))
     yield Measurement("journal", "What do commits, openings, bases and posts of a store with a file take, and replicas?", 8,
                       ("starlette", "uvicorn"))

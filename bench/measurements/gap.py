@@ -7,11 +7,11 @@ graph-tool, scipy and networkx where they are there.
     python3 -m bench run gap --without networkx
 
 `kron` is Graph500's graph and `urand` a uniform one, of 16 edges a vertex; `grid` is a square grid of which 0.6 of the edges are
-left, so that it has as few edges and as long ways as roads. Each edge is there either way, and a vertex without one is left out;
+left, so that it has few edges and long ways, as roads have. Each edge is there either way, and a vertex without one is left out;
 vertices have their numbers in random order for all. Each runs in a process of its own, in turns. Figures are medians: processor
-time of one thread, of bfs over sources at random; and the bytes that became resident by the load, or of GAP's the bytes of its
-arrays, an edge one way. Each answer is compared, and the measurement stops where one differs. networkx is asked of two sources.
-The library is the proved one, or the one that MISTELUK_LIBRARY names.
+time, of bfs over sources at random; and for an edge one way the bytes that became resident by the load, or of GAP's algorithms
+those of their arrays. Each answer is compared, and the measurement stops where one differs. networkx is asked of two sources. The
+library is the proved one, or the one that MISTELUK_LIBRARY names.
 """
 from __future__ import annotations
 
@@ -22,7 +22,7 @@ import pathlib
 import subprocess
 import sys
 from statistics import median
-from typing import Any, Callable, Dict, Iterator, List, Optional, Tuple
+from typing import Any, Callable, Dict, Iterator, List
 
 import numpy
 
@@ -33,9 +33,8 @@ from bench.places import TOP
 from bench.stores.kernels import GAP, GRAPHS, PACKAGES, Found, Graph, asked, drawn, plain
 
 # What is told of each graph, by its name among the figures.
-FIGURES: Dict[str, Tuple[str, Callable[[Optional[float]], str]]] = {
-    "bfs": ("bfs", tables.seconds), "cc": ("cc", tables.seconds), "load": ("load", tables.seconds),
-    "bytes": ("bytes an edge", lambda size: tables.ABSENT if size is None else f"{size:,.0f}")}
+FIGURES: Dict[str, Callable[[float], str]] = {
+    "bfs": tables.seconds, "cc": tables.seconds, "load": tables.seconds, "bytes an edge": tables.count}
 
 
 def options(parser: argparse.ArgumentParser) -> None:
@@ -79,8 +78,8 @@ def rows(name: str, packages: List[str], words: argparse.Namespace, room: pathli
     print(f"{name}: {graph.vertices:,} vertices, {len(graph.sources):,} edges", file=sys.stderr)
     found = in_turns(works, words.turns)
     compare(name, found)
-    for what, (told, show) in FIGURES.items():
-        yield [f"{name}: {told}", *(show(median([it[what] for it in found[each]])) for each in works)]
+    for what, show in FIGURES.items():
+        yield [f"{name}: {what}", *(show(median([it[what] for it in found[each]])) for each in works)]
 
 
 def measure(words: argparse.Namespace, room: pathlib.Path) -> None:

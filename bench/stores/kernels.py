@@ -240,7 +240,7 @@ def asked(name: str, graph: Graph, sources: List[int]) -> Found:
     it.prepare()
     levels = [timed(functools.partial(it.levels, source)) for source in sources]
     labels, spent = timed(it.labels)
-    return {"load": load.processor, "bytes": size / len(graph.sources), "bfs": median([it.processor for _, it in levels]),
+    return {"load": load.processor, "bytes an edge": size / len(graph.sources), "bfs": median([it.processor for _, it in levels]),
             "cc": spent.processor, "levels": [digest(levels_of(it, graph.vertices)) for it, _ in levels],
             "labels": digest(labels_of(labels, graph.vertices))}
 
@@ -257,5 +257,6 @@ def plain(graph: Graph, sources: List[int], room: pathlib.Path) -> Found:
     for name, figure in map(str.split, lines):
         figures.setdefault(name, []).append(float(figure))
     *levels, labels = numpy.fromfile(answers, "u4").reshape(-1, graph.vertices)
-    return {"load": figures["load"][0], "bytes": figures["bytes"][0] / len(graph.sources), "bfs": median(figures["bfs"]),
-            "cc": figures["cc"][0], "levels": list(map(digest, levels)), "labels": digest(labels_of(labels, graph.vertices))}
+    return {"load": figures["load"][0], "bytes an edge": figures["bytes"][0] / len(graph.sources), "cc": figures["cc"][0],
+            "bfs": median(figures["bfs"]), "levels": list(map(digest, levels)),
+            "labels": digest(labels_of(labels, graph.vertices))}
