@@ -9,7 +9,7 @@ from typing import Dict, Iterator, List, Tuple
 # How each thing that a measurement needs is found here, and how it is installed on Debian.
 PYTHON_PACKAGES = {it: f"python3-{it.replace('_', '-')}" for it in (
     "graph_tool", "igraph", "networkx", "numpy", "pandas", "scipy", "starlette", "uvicorn")}
-COMMANDS = {"valgrind": "valgrind", "rustc": "rustc", "/usr/bin/time": "time", "taskset": "util-linux"}
+COMMANDS = {"valgrind": "valgrind", "rustc": "rustc", "g++": "g++", "/usr/bin/time": "time", "taskset": "util-linux"}
 
 
 @dataclass(frozen=True)
@@ -85,6 +85,10 @@ def of_the_library_and_client() -> Iterator[Measurement]:
     yield Measurement("endless", "Is a feed without end right at ten points, and how long is its longest commit?", 3)
     yield Measurement("renewals", "How long does a store in process stand still when it starts over, by its edges?", 0.5)
     yield Measurement("latency", "How long does a commit take by its size, and a question by its version's age?", 4, ("numpy",))
+    yield Measurement("gap", "How long do bfs and components take over GAP's graphs, compared with GAP's own algorithms?", 12,
+                      ("numpy", "g++"), ("igraph", "graph_tool", "scipy", "networkx"))
+    yield Measurement("stream", "How many updates a second come in, alone and during scans, compared with plain maps?", 4,
+                      ("numpy", "g++"))
     yield Measurement("journal", "What do commits, openings, bases and posts of a store with a file take, and replicas?", 8,
                       ("starlette", "uvicorn"))
     yield Measurement("serve", "How long do a server's clients wait, and what does the feed lose?", 4, ("starlette", "uvicorn"))

@@ -48,12 +48,15 @@ def stinger_run(words: argparse.Namespace, workers: Optional[int] = 1, blocks: i
 
 
 def compiled(name: str) -> str:
-    """A program of bench/rust, by rustc -O with the standard library, compiled once for each form of its source."""
-    source, made = TOP / f"bench/rust/{name}.rs", OUT / "bin" / name
-    newest = max(it.stat().st_mtime for it in source.parent.glob("*.rs"))  # (one may be a module of another)
+    """A program of bench/rust, by rustc -O with the standard library, or of bench/cpp, by g++ -O3, compiled once for each form of
+    its source."""
+    source = next(it for it in (TOP / f"bench/rust/{name}.rs", TOP / f"bench/cpp/{name}.cpp") if it.exists())
+    words = ["rustc", "--edition", "2021", "-O"] if source.suffix == ".rs" else ["g++", "-std=c++17", "-O3", "-pthread"]
+    made = OUT / "bin" / name
+    newest = max(it.stat().st_mtime for it in source.parent.iterdir())  # (one may be a module of another)
     if not made.exists() or made.stat().st_mtime < newest:
         made.parent.mkdir(parents=True, exist_ok=True)
-        subprocess.run(["rustc", "--edition", "2021", "-O", "-o", str(made), str(source)], check=True)
+        subprocess.run([*words, "-o", str(made), str(source)], check=True)
     return str(made)
 
 

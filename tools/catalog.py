@@ -65,6 +65,7 @@ PARTS = {
         Tool("refuse-each-growth", "refuses each request for memory of the tests `refused_..`"),
         Tool("refuse-each-request", "refuses each request for memory of whole runs of the program"),
         Tool("try-journal", "kills writers of a store's file, cuts the power, damages bytes, fills the disk"),
+        Tool("try-networkx", "runs networkx's own tests over graphs of held versions"),
         Tool("try-next-library", "runs a program of today's header with a library whose structs have grown"),
         Tool("proof-numbers", "counts functions, clauses and lemmas, for [PROOF](../docs/PROOF.md)"),
         Tool("draw-pictures", "draws the pictures of the pages"),

@@ -27,11 +27,13 @@ from unittest import mock
 sys.dont_write_bytecode = True
 TOP = pathlib.Path(__file__).resolve().parent.parent
 sys.path[:0] = [str(TOP), str(TOP / "python")]
-from bench import measuring, needs, rattle, readme, scripts, soaking, tables  # noqa: E402
+from bench import measuring, needs, places, rattle, readme, scripts, soaking, tables  # noqa: E402
 from bench.calls import Code, Refused  # noqa: E402
 from bench.catalog import CATALOG, Measurement  # noqa: E402
 from bench.checks import Checks  # noqa: E402
 from bench.measurements import quiet  # noqa: E402
+from misteluk import errors  # noqa: E402
+from misteluk.engine import finding  # noqa: E402
 
 # A measurement is a module of fewer lines than these.
 LINES = 120
@@ -261,6 +263,77 @@ class Checking(unittest.TestCase):
         called = {it for it in known | {("Opened", "named", True), ("Desk", "open", False), ("Seat", "pin", True)}
                   if rattle.is_called(text, *it)}
         self.assertEqual(called, known - {("Gate", "arrive", True)} | {("Opened", "named", True)})
+
+
+def library() -> str:
+    """The library, or nothing where none is made yet."""
+    try:
+        return finding.find_library()
+    except errors.LibraryNotFound:
+        return ""
+
+
+@unittest.skipUnless(library() and shutil.which("g++"), "no library, or no g++, is there")
+@unittest.skipUnless(importlib.util.find_spec("numpy"), "numpy is not there")
+class Compared(unittest.TestCase):
+    """Short runs of what compares the library with plain programs in C++, and that other answers stop them."""
+
+    def table(self, *words: str) -> List[List[str]]:
+        done = bench("run", *words, "--turns", "1", MISTELUK_LIBRARY=library())
+        self.assertEqual(done.returncode, 0, done.stderr)
+        return [[it.strip() for it in line.split("|")[1:-1]] for line in done.stdout.splitlines() if line[:3] not in ("", "|--")]
+
+    def test_gap(self) -> None:
+        head, *rows = self.table("gap", "--only", "kron", "--scale", "7", "--sources", "2")
+        self.assertEqual(head[:3], ["2^7 vertices", "GAP's in C++", "library"])
+        self.assertEqual([it[0] for it in rows], [f"kron: {it}" for it in ("bfs", "cc", "load", "bytes an edge")])
+        for row in rows:
+            self.assertTrue(all(re.fullmatch(r"[\d.,]+( s| ms| µs)?", it) for it in row[1:]), row)
+
+    def test_stream(self) -> None:
+        table = self.table("stream", "--edges", "300", "--scale", "7", "--sizes", "1", "100")
+        self.assertEqual([it[0] for it in table[1:]], [f"{shape}, {size}" for shape in ("rmat", "uniform") for size in (1, 100)])
+        self.assertEqual({len(it) for it in table}, {7})
+
+    def test_graphs(self) -> None:
+        """Each edge has a twin, none is a loop or there twice, and vertices have numbers as they come."""
+        kernels = importlib.import_module("bench.stores.kernels")
+        for name in kernels.GRAPHS:
+            graph = kernels.drawn(name, 6)
+            edges = list(zip(graph.sources.tolist(), graph.targets.tolist()))
+            self.assertEqual(len(set(edges)), len(edges))
+            self.assertTrue(all(one != other and (other, one) in set(edges) for one, other in edges))
+            self.assertEqual(list(dict.fromkeys(it for edge in edges for it in edge)), list(range(graph.vertices)))
+
+    def test_a_log(self) -> None:
+        """Nothing is inserted twice or removed before it is there, and a tenth of the operations stays."""
+        log = importlib.import_module("bench.stores.updates").log_of("rmat", 7, 300)
+        there, most = set(), 0
+        for sort, *edge in zip(*map(list, log[:3])):
+            self.assertEqual(tuple(edge) in there, sort == 2)
+            there ^= {tuple(edge)}
+            most = max(most, len(there))
+        self.assertEqual((len(log.sorts), len(there)), (3_000, 300))
+        self.assertLess(most, 600)
+
+    def test_other_answers(self) -> None:
+        """A level, a label or a degree that differs ends the measurement."""
+        gap, stream = (importlib.import_module(f"bench.measurements.{it}") for it in ("gap", "stream"))
+        right = {"levels": ["a", "b"], "labels": "c"}
+        gap.compare("it", {gap.GAP: [right], "one": [right, {**right, "levels": ["a"]}]})
+        for wrong in ({"levels": ["a", "c"]}, {"labels": "d"}):
+            with self.assertRaisesRegex(SystemExit, "one has other answers"):
+                gap.compare("it", {gap.GAP: [right], "one": [right, {**right, **wrong}]})
+        log = importlib.import_module("bench.stores.updates").log_of("rmat", 5, 20)
+        wrong_store = lambda log, *_: stream.Spent(1, 1.0, 1, 1.0, log.sources[:32])  # noqa: E731
+        with mock.patch.dict(stream.STORES, library=wrong_store), mock.patch.object(places, "OUT", self.room()):
+            with self.assertRaisesRegex(SystemExit, "has other edges in the end, in batches of 7"):
+                stream.row(log, 7, 1, self.room())
+
+    def room(self) -> pathlib.Path:
+        room = tempfile.TemporaryDirectory()
+        self.addCleanup(room.cleanup)
+        return pathlib.Path(room.name)
 
 
 class Degrees(Dict[str, int]):

@@ -158,12 +158,13 @@ class Named(unittest.TestCase):
         self.script("bin/rt", "echo a kit")
         self.gate("--unproved")
         each = set(self.parts())
-        after_these = {"python/check ", "tools/test_parts ", "tools/test_library ", "examples/check "}
+        after_these = {"python/check ", "tools/test_parts ", "tools/test_bench.py ", "tools/test_library ",
+                       "examples/check "}
         for faulty, failed, left_out in (
                 ("tools/test_parts", "parts", ()), ("tools/test_bench.py", "bench", ()), ("tools/test_library", "c", ()),
                 ("python/check", "python", ()), ("examples/check", "examples", ()),
-                ("./stinger", "library, program, python (not run), parts (not run), c (not run), examples (not run)",
-                 after_these)):
+                ("./stinger", "library, program, python (not run), parts (not run), bench (not run), c (not run), "
+                 "examples (not run)", after_these)):
             done = self.gate("--unproved", faulty=faulty)
             said = done.stdout.splitlines()
             self.assertEqual((done.returncode, said[-1]), (1, f"failed: {failed}"))

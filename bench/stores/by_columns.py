@@ -2,17 +2,15 @@
 from __future__ import annotations
 
 import pathlib
-from ctypes import sizeof
 from typing import Any, Callable, Dict, Tuple
 
 import numpy
 
-from bench.calls import loaded, must
+from bench.calls import loaded
 from bench.measuring import of_process, timed, watch
-from bench.stores.growing import Store, at, columns_of, texts
+from bench.stores.growing import Store, columns_of
 from misteluk import Columns
 from misteluk import Store as Client
-from misteluk.engine import interface
 
 # Processor seconds; bytes that became resident; and how many edges and blocks there are, where that is told.
 Figures = Dict[str, float]
@@ -43,15 +41,9 @@ def counted(store: Store) -> Dict[str, float]:
 # The library, by ctypes: an opening, and batches of 65,536.
 
 def opening(shape: str, scale: int, edges: int) -> Figures:
-    store, columns, (text, ends) = Store(loaded(), scale, edges, True), columns_of(shape, scale, edges), texts(1 << scale)
-    sorts, kinds, one = numpy.zeros(edges, "u1"), numpy.zeros(edges, "u4"), numpy.ones(1, "u8")
-    words = [word for it in (sorts, kinds, *columns) for word in (at(it), edges)]
-    given = interface.Columns(sizeof(interface.Columns), b"e", 1, at(one), 1, text, len(text), at(ends), len(ends), *words)
-
-    def load() -> Store:
-        must(store.library.desk_open_columns(store.desk, given, store.done))
-        return store
-    return made(load, counted)
+    store = Store(loaded(), scale, edges, True)
+    load = store.opening(columns_of(shape, scale, edges))
+    return {**made(load), **counted(store)}
 
 
 def batches(shape: str, scale: int, edges: int) -> Figures:

@@ -1,7 +1,7 @@
 """A desk of the C library as large as a graph of `scale` needs, the shapes of such graphs, and what is asked."""
 from __future__ import annotations
 
-from ctypes import c_uint32, c_uint64
+from ctypes import c_uint32, c_uint64, sizeof
 from typing import Any, Callable, List, Tuple
 
 import numpy
@@ -73,6 +73,15 @@ class Store:
             must(self.library.desk_collect(self.desk, self.done))
             spent.append(since().processor)
         return spent
+
+    def opening(self, columns: Tuple[Any, ...]) -> Callable[[], None]:
+        """What has the desk, which has no vertex, start over with edges of these columns."""
+        count, (text, ends), one = len(columns[0]), texts(self.names), numpy.ones(1, "u8")
+        table = numpy.zeros(count, "u1"), numpy.zeros(count, "u4"), *columns
+        words = [word for it in table for word in (at(it), count)]
+        given = interface.Columns(sizeof(interface.Columns), b"e", 1, at(one), 1, text, len(text), at(ends), len(ends), *words)
+        given.kept = table, ends, one
+        return lambda: must(self.library.desk_open_columns(self.desk, given, self.done))
 
     def stat(self) -> Any:
         found = interface.Stat()

@@ -4,7 +4,7 @@ from __future__ import annotations
 from copy import copy, deepcopy
 from dataclasses import replace
 from itertools import repeat
-from typing import TYPE_CHECKING, Any, Dict, ItemsView, Iterator, Mapping, Tuple, ValuesView
+from typing import TYPE_CHECKING, Any, Dict, ItemsView, Iterator, Mapping, Optional, Tuple, ValuesView
 
 import networkx
 from networkx.classes.function import frozen
@@ -12,9 +12,13 @@ from networkx.classes.function import frozen
 from .engine.protocol import Arrays, Scope, must_have_kind
 from .values.adjacency import Row, adjacency, filled, put
 from .values.edges import Edges
+from .values.units import Moment
 
 if TYPE_CHECKING:
     from .session import Session
+
+# A kind and two times, as a user gives them.
+Window = Tuple[Optional[str], Moment, Moment]
 
 # Of how many names, or of which part of all, edges are read one by one: then all edges at once take less time.
 FEW, PART = 64, 16
@@ -38,10 +42,11 @@ NOTHING = Frozen()
 
 
 class Read:
-    """The edges of a version that count, as far as they were read: the names, and by name the edges out and in."""
+    """The edges of a version that count, as far as they were read: the names, and by name the edges out and in. `window` is the
+    kind, since and until, as a session takes them."""
 
-    def __init__(self, session: Session[Any, Any], scope: Scope) -> None:
-        self.session, self.scope, self._held = session, scope, session._held
+    def __init__(self, session: Session[Any, Any], scope: Scope, window: Window) -> None:
+        self.session, self.scope, self.window, self._held = session, scope, window, session._held
         self.by_kind = scope.kind is None and len(session.kinds()) > 1
         self._nodes = dict.fromkeys(session.vertices(), NOTHING)
         self._rows: Tuple[Dict[str, Row], Dict[str, Row]] = {}, {}
@@ -148,6 +153,7 @@ class _HeldGraph:
         graph._read, graph._node = read, Nodes(read)
         graph._adj = graph._succ = Rows(read, 0)
         graph._pred = Rows(read, 1)
+        graph.__networkx_cache__ = None  # (so networkx keeps nothing of what a backend makes of it, and doesn't warn of that)
         return networkx.freeze(graph)
 
     @property
@@ -180,10 +186,15 @@ class HeldMultiDiGraph(_HeldGraph, networkx.MultiDiGraph):  # type: ignore[misc]
     _plain = networkx.MultiDiGraph
 
 
-def graph_of(session: Session[Any, Any], scope: Scope) -> Any:
+def held_read(graph: Any) -> Optional[Read]:
+    """What a graph of a version reads from; of any other nothing."""
+    return graph._read if isinstance(graph, _HeldGraph) else None
+
+
+def graph_of(session: Session[Any, Any], scope: Scope, window: Window) -> Any:
     """A graph of a version, whose session keeps what is read. Raises `Denied` for a kind that the version doesn't have."""
     must_have_kind(session._held, scope.kind)
     read = session._read
     if read is None or read.scope != scope:
-        read = session._read = Read(type(session)(session.store, session._held), scope)
+        read = session._read = Read(type(session)(session.store, session._held), scope, window)
     return (HeldMultiDiGraph if read.by_kind else HeldDiGraph)._of(read)

@@ -297,7 +297,7 @@ class Session(Generic[W, T]):
         needed("networkx", "a graph")
         from .graphs import graph_of
         scope, asked = self._scope("graph", kind, since, until)
-        return self._asked(graph_of, asked, self, scope)
+        return self._asked(graph_of, asked, self, scope, (kind, since, until))
 
     def diff(self, later: Session[Any, Any], kind: Optional[str] = None, since: Moment = 0, until: Moment = LAST) -> Diff[W, T]:
         """Returns what became of this version's edges in a later one: those gone, new, and with another weight or time. The later

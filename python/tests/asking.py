@@ -14,7 +14,7 @@ LATER = ("remove l a c", "add k b c 2 7", "insert m d b 6 8")
 # What of a session asks for no answer.
 NO_ANSWERS = {"close", "edge_count", "is_open", "save", "store", "version", "vertex_count"}
 # What edges become, and the package that it needs.
-BECOME = {"to_networkx": "networkx", "to_igraph": "igraph", "to_scipy": "scipy"}
+BECOME = {"to_networkx": "networkx", "to_igraph": "igraph", "to_graph_tool": "graph_tool", "to_scipy": "scipy"}
 # What a session itself answers by a package.
 NEED = {"graph": "networkx"}
 Call = Tuple[str, Callable[..., Any], Tuple[Any, ...]]
@@ -68,6 +68,8 @@ def plain(found: Any) -> Any:
         return found.values.tolist()
     if kind in ("MultiDiGraph", "HeldMultiDiGraph"):
         return [list(found), sorted(map(str, found.edges(data=True)))]
+    if hasattr(found, "edge_properties"):
+        return [[found.vp["name"][it] for it in found.get_vertices()], sorted(found.iter_edges(list(found.ep.values())), key=str)]
     if kind == "Graph":
         return [found.vs["name"], found.get_edgelist(), *(found.es[it] for it in ("kind", *misteluk.Edge._fields))]
     if kind == "csr_matrix":

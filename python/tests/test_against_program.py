@@ -106,7 +106,7 @@ SAID = {
     "degrees": lambda voice, a, b, k, *window: voice.degrees(*window),
     "weights_in": lambda voice, a, b, k, *window: weights_in(voice, *window),
     "edge": lambda voice, a, b, k: voice.edge(k, a, b),
-    **dict.fromkeys(("edges", "frame", "to_csv", "to_networkx", "to_igraph", "graph"),
+    **dict.fromkeys(("edges", "frame", "to_csv", "to_networkx", "to_igraph", "to_graph_tool", "graph"),
                     lambda voice, a, b, k, *window: voice.edges(*window)),
     "to_scipy": lambda voice, a, b, k, *window: sums(voice.edges(*window)),
     "out_edges": lambda voice, a, b, k, *window: only_at(voice, a, 1, *window),
@@ -205,11 +205,19 @@ def asked(session, ask, name, path, a, b, k, *window):
     if name == "to_igraph":
         names = found.vs["name"]
         return {(it["kind"], names[it.source], names[it.target]): (it["weight"], it["first"], it["recent"]) for it in found.es}
+    if name == "to_graph_tool":
+        return edges_of(found)
     if name == "to_scipy":
         names, matrix = session.edges(*window).names, found.tocoo()
         matrix.sum_duplicates()
         return {(names[a], names[b]): it for a, b, it in zip(matrix.row, matrix.col, matrix.data) if it}
     return plain(found)
+
+
+def edges_of(graph):
+    """The edges of a graph of graph-tool."""
+    names, marks = graph.vp["name"], [graph.ep[it] for it in ("kind", "weight", "first", "recent")]
+    return {(kind, names[source], names[target]): tuple(told) for source, target, kind, *told in graph.iter_edges(marks)}
 
 
 class Both:

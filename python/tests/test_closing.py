@@ -18,7 +18,7 @@ OURS = tuple(f"/misteluk/{it}.py" for it in ("engine/held", "engine/walked", "se
 A_WHILE = 1.0
 # The calls that keep what they were told, or go by what is kept.
 OF_ALL = "degrees", "edges", "in_edges of a kind", "out_edges", "in_edges", "levels", "edge count"
-OF_OTHERS = ("to_pandas", "to_networkx", "to_igraph", "to_scipy", "view", "to_csv")
+OF_OTHERS = ("to_pandas", "to_networkx", "to_igraph", "to_graph_tool", "to_scipy", "view", "to_csv")
 CALLS = {name: (call, given) for name, call, given in calls("") if name not in OF_OTHERS}
 OF_ALL += tuple(it for it in ("graph",) if it in CALLS)
 

@@ -68,7 +68,7 @@ LOOSE = ("def f(it):", "    return it", "", "", "count: int = 'one'", "")
 
 @unittest.skipUnless(find_mypy(), "mypy is not there")
 class Types(Case):
-    """One run judges the package, under the settings of this one, and programs of users."""
+    """One run judges the package and the backend for networkx, under the settings of this one, and programs of users."""
 
     @classmethod
     def setUpClass(cls) -> None:
@@ -78,7 +78,9 @@ class Types(Case):
         for path, lines in zip(cls.programs.values(), ((*BEGIN, *RIGHT, *END), (*BEGIN, *WRONG, *END), LOOSE)):
             path.write_text("\n".join(lines))
         settings = ("--config-file", str(HERE.parent / "pyproject.toml"), "--cache-dir", os.devnull)
-        done = subprocess.run([*(find_mypy() or []), *settings, "misteluk", *map(str, cls.programs.values())],
+        packages = ["misteluk", *map(str, HERE.parent.glob("networkx_backend/misteluk_networkx"))]
+        cls.modules = sum(len(list((HERE.parent / it).rglob("*.py"))) for it in packages)
+        done = subprocess.run([*(find_mypy() or []), *settings, *packages, *map(str, cls.programs.values())],
                               stdout=subprocess.PIPE, stderr=subprocess.STDOUT, text=True, cwd=HERE.parent,
                               env={**os.environ, "MYPYPATH": str(HERE.parent)})
         *cls.told, cls.last = done.stdout.splitlines()
@@ -89,7 +91,7 @@ class Types(Case):
         return [it[len(path) + 1:] for it in self.told if it.startswith(path)]
 
     def test_each_module_is_typed(self) -> None:
-        count = len(list((HERE.parent / "misteluk").rglob("*.py"))) + len(self.programs)
+        count = self.modules + len(self.programs)
         self.assertRegex(self.last, rf"^Found \d+ errors in 2 files \(checked {count} source files\)$")
         programs = tuple(map(str, self.programs.values()))
         self.assertEqual([it for it in self.told if ": error: " in it and not it.startswith(programs)], [])

@@ -1,4 +1,4 @@
-"""Graphs of networkx and igraph, sparse matrices, pandas frames, columns and rows of Python as feeds."""
+"""Graphs of networkx, igraph and graph-tool, sparse matrices, pandas frames, columns and rows of Python as feeds."""
 from __future__ import annotations
 
 import reprlib
@@ -127,13 +127,33 @@ def from_igraph(graph: Any, *, kind: str = USUAL_KIND, weight: str = "weight", t
     vertices have none."""
     name = f"graph {graph['name'] if 'name' in graph.attributes() else ''}".strip()
     given = graph.vs["name"] if "name" in graph.vs.attributes() else range(graph.vcount())
-    names = texts_of(list(given), name, 0)
-    known = [it for it in names if it]
-    if len(set(known)) < len(known):
-        raise FeedFault(f"{name}: two vertices have one name: give them others (graph.vs['name'])")
+    names = _different(name, list(given), "graph.vs['name']")
     _warn_of_idle([it for it, degree in zip(names, graph.degree()) if not degree])
     edges = ((names[it.source], names[it.target], it.attributes()) for it in graph.es)
     return Feed(name, _rows_of_graph(name, edges, both_ways and not graph.is_directed(), kind, (kind_of, weight, time)))
+
+
+def from_graph_tool(graph: Any, *, kind: str = USUAL_KIND, weight: str = "weight", time: str = "time", kind_of: str = "kind",
+                    both_ways: bool = True) -> Feed:
+    """A graph of graph-tool, also a view of some of its vertices and edges, as `from_igraph` takes one of igraph: a vertex's name
+    is its property `name`, or its number, and an edge's attributes are its properties."""
+    name, numbers = "graph", graph.get_vertices().tolist()
+    given = [graph.vp["name"][it] for it in numbers] if "name" in graph.vp else numbers
+    names = dict(zip(numbers, _different(name, given, "graph.vp['name']")))
+    _warn_of_idle([names[it] for it, degree in zip(numbers, graph.get_total_degrees(numbers).tolist()) if not degree])
+    wanted = [it for it in (kind_of, weight, time, "first", "recent") if it in graph.ep]
+    edges = ((names[source], names[target], dict(zip(wanted, told)))
+             for source, target, *told in graph.iter_edges([graph.ep[it] for it in wanted]))
+    return Feed(name, _rows_of_graph(name, edges, both_ways and not graph.is_directed(), kind, (kind_of, weight, time)))
+
+
+def _different(feed: str, given: List[Any], where: str) -> Sequence[str]:
+    """The texts of vertices' names. Raises `FeedFault` where two are the same."""
+    names = texts_of(given, feed, 0)
+    known = [it for it in names if it]
+    if len(set(known)) < len(known):
+        raise FeedFault(f"{feed}: two vertices have one name: give them others ({where})")
+    return names
 
 
 def from_matrix(matrix: Any, columns: Columns = Columns()) -> Feed:

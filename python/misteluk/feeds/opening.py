@@ -106,9 +106,10 @@ def reads(call: F) -> F:
 
 
 def _of_object(data: Any, columns: Columns, both_ways: bool) -> Feed:
-    from .objects import from_columns, from_igraph, from_matrix, from_networkx, from_pandas, from_rows
+    from .objects import from_columns, from_graph_tool, from_igraph, from_matrix, from_networkx, from_pandas, from_rows
     if hasattr(data, "is_directed"):
-        from_graph = from_networkx if hasattr(data, "edges") else from_igraph
+        is_graph_tool = hasattr(data, "edge_properties")
+        from_graph = from_graph_tool if is_graph_tool else from_networkx if hasattr(data, "edges") else from_igraph
         return from_graph(data, kind=columns.default_kind, both_ways=both_ways, weight=str(columns.weight or "weight"),
                           time=str(columns.time or "time"), kind_of=str(columns.kind or "kind"))
     if hasattr(data, "tocoo"):

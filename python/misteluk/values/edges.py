@@ -16,6 +16,7 @@ from ..errors import needed
 from ..files import whole_text
 
 if TYPE_CHECKING:
+    import graph_tool
     import igraph
     import networkx
     import numpy
@@ -257,6 +258,28 @@ class Edges(Sequence["Told[W, T]"], Generic[W, T]):
         graph.es["kind"] = list(map(self.kinds.__getitem__, self.kind))
         for name, values in zip(Edge._fields, self._told()):
             graph.es[name] = list(values)
+        return graph
+
+    def to_graph_tool(self) -> graph_tool.Graph:
+        """Returns the edges as a directed graph of graph-tool.
+
+        Vertices are numbered as in the version, and have the property `name`. Edges have the properties `kind`, `weight`, `first`
+        and `recent`: decimal weights are floats, and dates texts, so that a file of the graph has them.
+
+        >>> graph = session.edges().to_graph_tool()  # needs graph_tool
+        >>> graph.num_edges(), [graph.vp["name"][it] for it in graph.get_out_neighbors(0)]
+        (4, ['fulda', 'hanau'])
+        """
+        graph_tool, numpy = needed("graph_tool", "a graph"), needed("numpy", "a graph")
+        graph = graph_tool.Graph(directed=True)
+        graph.add_vertex(len(self.names))
+        graph.add_edge_list(numpy.column_stack((self.source, self.target)))
+        graph.vp["name"] = graph.new_vp("string", vals=self.names)
+        graph.ep["kind"] = graph.new_ep("string", vals=list(map(self.kinds.__getitem__, self.kind)))
+        for name, values in zip(Edge._fields, self._told()):
+            is_date = name != "weight" and self.units.has_dates
+            sort = "string" if is_date else "double" if name == "weight" and self.units.scale != 1 else "long"
+            graph.ep[name] = graph.new_ep(sort, vals=list(map(str if is_date else float if sort == "double" else int, values)))
         return graph
 
     def to_scipy(self) -> scipy.sparse.csr_matrix:
