@@ -24,9 +24,7 @@ struct misteluk_arrow_lender { struct loan *returned; };
 
 /* Each column has a struct, and one for its dictionary. After those of all columns stand the pointers that the root has. */
 struct tree { size_t uses; struct loan *loan; };
-
 struct schemas { struct tree tree; struct ArrowSchema parts[][2]; };
-
 struct arrays {
     struct tree tree;
     struct { struct ArrowArray parts[2]; const void *values[2], *texts[3]; } columns[];
@@ -175,17 +173,14 @@ struct ArrowSchema *misteluk_arrow_schema(struct ArrowArrayStream *stream)
     return NULL;
 }
 
-size_t misteluk_arrow_returned(misteluk_arrow_lender *lender, void **owners, size_t owners_length)
+void misteluk_arrow_give_back(misteluk_arrow_lender *lender, void (*take)(void *owner))
 {
-    size_t count = 0;
     struct loan *next, *it = __atomic_exchange_n(&lender->returned, NULL, __ATOMIC_ACQUIRE);
-    for (; it && count < owners_length; it = next) {
+    for (; it; it = next) {
         next = it->next;
-        owners[count++] = it->owner;
+        take(it->owner);
         free(it);
     }
-    for (; it; it = next) next = it->next, put(it);
-    return count;
 }
 
 void misteluk_arrow_python(void *(*get_pointer)(void *capsule, const char *name))

@@ -4,9 +4,8 @@
  *     misteluk_arrow_lender *lender = misteluk_arrow_lender_new();
  *     misteluk_arrow_column column = {"weight", "l", NULL, weights, NULL, NULL, 0};
  *     struct ArrowArrayStream *stream = misteluk_arrow_stream(lender, weights, &column, 1, rows);
- *     void *owner;
- *     take(stream); // e.g. pyarrow, polars, duckdb: releases the stream and its batch, at any time and in any thread
- *     while (misteluk_arrow_returned(lender, &owner, 1)) free(owner); // weights, once all of it is released
+ *     read(stream); // e.g. pyarrow, polars, duckdb: releases the stream and its batch, at any time and in any thread
+ *     misteluk_arrow_give_back(lender, free); // weights, once all of it is released
  *
  * Nothing is copied but the structs. A release only counts, and notes the owner of the memory with its lender: it runs no code
  * of others, takes no lock and doesn't wait, so it is safe whenever it comes.
@@ -82,8 +81,8 @@ struct ArrowArrayStream *misteluk_arrow_stream(misteluk_arrow_lender *lender, vo
 /* The schema of a stream, in a struct as the stream's own, which may be released after it. NULL if out of memory. */
 struct ArrowSchema *misteluk_arrow_schema(struct ArrowArrayStream *stream);
 
-/* Writes owners of which all was released, each once, as far as there is room, and returns how many. Any thread may ask. */
-size_t misteluk_arrow_returned(misteluk_arrow_lender *lender, void **owners, size_t owners_length);
+/* Calls a function with each owner of whose memory all was released since the last call. Any thread may ask. */
+void misteluk_arrow_give_back(misteluk_arrow_lender *lender, void (*take)(void *owner));
 
 /* For Python's capsules: their destructors, which release what nobody moved out, and free it. Before the first of them comes, a
  * program says where Python's PyCapsule_GetPointer is, which this library isn't linked to. */

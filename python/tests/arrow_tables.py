@@ -19,7 +19,7 @@ capsule_of = ctypes.PYFUNCTYPE(ctypes.py_object, c_void_p, c_char_p, c_void_p)((
 RELEASE, GET, TELL = CFUNCTYPE(None, c_void_p), CFUNCTYPE(c_int, c_void_p, c_void_p), CFUNCTYPE(c_void_p, c_void_p)
 EXACT = Context(prec=99)
 # How `struct` writes the numbers of each format.
-CODES = {"c": "b", "C": "B", "s": "h", "S": "H", "i": "i", "I": "I", "l": "q", "L": "Q", "f": "f", "g": "d", "tdD": "i", "tdm": "q"}
+CODES = {"c": "b", "C": "B", "s": "h", "S": "H", "i": "i", "I": "I", "l": "q", "L": "Q", "f": "f", "g": "d", "tdD": "i"}
 
 
 class Sums(ctypes.Structure):
@@ -59,7 +59,7 @@ class Part(NamedTuple):
 
 
 class Column(NamedTuple):
-    """A column: its format, and that of its dictionary where it has one; what makes a part of values, and the values; metadata."""
+    """A column: its format, and its dictionary's where it has one; what makes a part of values, and the values; metadata."""
 
     format: str
     part: Callable[[Sequence[Any]], Part]

@@ -59,7 +59,8 @@ def some_weights(made, count):
 
 def plain(found, name):
     """What a survey found, without the feed's name."""
-    return found.rows, found.bad, found.vertices, found.kinds, found.fault_counts, [re.sub(rf"^{name}:", "", str(it)) for it in found.faults]
+    faults = [re.sub(rf"^{name}:", "", str(it)) for it in found.faults]
+    return found.rows, found.bad, found.vertices, found.kinds, found.fault_counts, faults
 
 
 class Forms(Case):

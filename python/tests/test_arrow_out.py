@@ -222,15 +222,17 @@ class Out(Case):
         edges = self.bank().open().edges()
         before = sys.getrefcount(edges._columns[3])
         lender = lending.lender_of(find_library())
-        for name, call in (("misteluk_arrow_stream", edges.__arrow_c_stream__), ("misteluk_arrow_schema", edges.__arrow_c_schema__)):
-            with mock.patch.object(lender.library, name, lambda *_: None):
+        for name, call in (("stream", edges.__arrow_c_stream__), ("schema", edges.__arrow_c_schema__)):
+            with mock.patch.object(lender.library, f"misteluk_arrow_{name}", lambda *_: None):
                 self.refused(NoMemory, "no memory for a stream", call)
         gc.collect()
         lender.give_back()
         self.assertEqual(sys.getrefcount(edges._columns[3]), before)
         made = arrow.compiled(self.room / "other.so", "-fPIC", "-shared", HERE / "shim.c")
         with mock.patch.dict(os.environ, {"MISTELUK_LIBRARY": str(made)}):
-            self.refused(LibraryNotFound, "has no function misteluk_arrow_lender_new", edges.__arrow_c_stream__)
+            self.refused(LibraryNotFound, "no library can be loaded", edges.__arrow_c_stream__)
+        with mock.patch.dict(lending.FUNCTIONS, {"to_come": (None, [])}):
+            self.refused(LibraryNotFound, "has no function misteluk_arrow_to_come", lambda: lending.Lender(find_library()))
 
 
 @unittest.skipUnless(IS_REPOSITORY, NO_REPOSITORY)
@@ -269,7 +271,7 @@ class Memory(Case):
                 ("own->dictionary = dictionary;", "own->dictionary = dictionary, made->tree.uses--;", "heap-use-after-free"),
                 ("own->dictionary = texts;", "own->dictionary = texts, made->tree.uses--;", "heap-use-after-free"),
                 ("columns[loan->count];\n    __atomic_add_fetch(&loan->uses, 1, __ATOMIC_RELAXED);", "columns[loan->count];", ""),
-                ("    free(tree);\n    leave_loan(loan);", "    free(tree);", ""),
+                ("    free(tree);\n    leave_loan(loan);", "    free(tree);\n    (void)loan;", ""),
                 ("    free(tree);\n", "", "LeakSanitizer")):
             status, found = self.watched(old, new)
             self.assertNotEqual(status, 0, old)

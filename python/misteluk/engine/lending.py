@@ -14,17 +14,18 @@ from functools import lru_cache
 from itertools import accumulate
 from typing import Any, Dict, List, Sequence, Sized, Tuple
 
-from .calling import LENDERS, address
+from .calling import LENDERS, address, opened
 from .finding import find_library, next_step
 from ..errors import LibraryNotFound, NoMemory
 from ..values.streamed import SCALE, StreamedColumn
 
-# What capsules are called; how many owners a call takes back.
-STREAM, SCHEMA, AT_ONCE = b"arrow_array_stream", b"arrow_schema", 64
+# What capsules are called.
+STREAM, SCHEMA = b"arrow_array_stream", b"arrow_schema"
 NO_MEMORY = "there is no memory for a stream of Arrow"
 # (functions of our own: others may have declared Python's in another way)
 _keep = PYFUNCTYPE(None, py_object)(("Py_IncRef", pythonapi))
 _drop = PYFUNCTYPE(None, c_void_p)(("Py_DecRef", pythonapi))
+_DROP = cast(pythonapi.Py_DecRef, c_void_p)
 _capsule = PYFUNCTYPE(py_object, c_void_p, c_char_p, c_void_p)(("PyCapsule_New", pythonapi))
 _pointer = PYFUNCTYPE(c_void_p, py_object, c_char_p)(("PyCapsule_GetPointer", pythonapi))
 
@@ -38,14 +39,15 @@ class Column(Structure):
 
 FUNCTIONS: Dict[str, Tuple[Any, List[Any]]] = {
     "lender_new": (c_void_p, []), "stream": (c_void_p, [c_void_p, c_void_p, c_void_p, c_size_t, c_int64]),
-    "schema": (c_void_p, [c_void_p]), "returned": (c_size_t, [c_void_p, c_void_p, c_size_t]), "python": (None, [c_void_p]),
-    "end_stream": (None, [c_void_p]), "end_schema": (None, [c_void_p])}
+    "schema": (c_void_p, [c_void_p]), "python": (None, [c_void_p]), "give_back": (None, []), "end_stream": (None, []),
+    "end_schema": (None, [])}
 
 
 class Lender:
-    """A library that lends columns out."""
+    """A library that lends columns out. Raises `LibraryNotFound` where it can't."""
 
     def __init__(self, path: str) -> None:
+        opened(path)  # (which raises where it is none of this interface)
         self.library = CDLL(path)
         for name, (result, arguments) in FUNCTIONS.items():
             function = getattr(self.library, f"misteluk_arrow_{name}", None)
@@ -54,6 +56,8 @@ class Lender:
                                       f"earlier release. {next_step()}")
             function.restype, function.argtypes = result, arguments
         self.ends = [cast(getattr(self.library, f"misteluk_arrow_end_{it}"), c_void_p) for it in ("stream", "schema")]
+        # (with the interpreter's lock, since it drops references: no interrupt comes between one that comes back and its drop)
+        self._give_back = PYFUNCTYPE(None, c_void_p, c_void_p)(("misteluk_arrow_give_back", self.library))
         self.lender = self.library.misteluk_arrow_lender_new()
         if not self.lender:
             raise NoMemory(NO_MEMORY)
@@ -85,11 +89,7 @@ class Lender:
 
     def give_back(self) -> None:
         """Drops the owners of what was released."""
-        owners = (c_void_p * AT_ONCE)()
-        count = AT_ONCE
-        while count == AT_ONCE:
-            count = self.library.misteluk_arrow_returned(self.lender, owners, AT_ONCE)
-            deque(map(_drop, owners[:count]), 0)
+        self._give_back(self.lender, _DROP)
 
 
 @lru_cache(maxsize=None)

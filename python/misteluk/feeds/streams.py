@@ -132,7 +132,7 @@ def _put(column: Any, name: str, schema: Schema, it: Array, first: int, count: i
             known.extend(values)
         begin = len(known) - len(values)
         codes = _with_gaps(it, _numbers(it.buffers[1], NUMBERS[schema.format.decode()], first, count), first)
-        column.codes.extend(-1 if at is None or values[at] is None else begin + at for at in codes)
+        column.codes.extend(-1 if at is None else begin + at for at in codes)
 
 
 def _values(name: str, schema: Schema, it: Array, first: int, count: int) -> List[Any]:

@@ -2,6 +2,7 @@
 from __future__ import annotations
 
 import heapq
+import operator
 from array import array
 from collections import Counter
 from dataclasses import dataclass, fields, is_dataclass
@@ -207,6 +208,11 @@ class Values(NamedTuple):
         values = self.values if at == slice(None) else self.values[at]
         return values if self.told is None else self.told(values)
 
+    def as_array(self) -> array[int]:
+        """The values where they are. Raises `TypeError` where they are no whole numbers any more."""
+        values = self.values
+        return values._numbers if isinstance(values, ReadOnlyArray) else array("q", map(operator.index, values))
+
     def read_only(self) -> Values:
         """The same, which nobody can change."""
         values = self.values
@@ -323,7 +329,7 @@ class Answer(Streamed, Mapping[str, V], Generic[V]):
         found = [StreamedColumn("name", "U", None, self.names)]
         for name, it in self.columns.items():
             try:
-                numbers = it.values._numbers if isinstance(it.values, ReadOnlyArray) else array("q", it.values)
+                numbers = it.as_array()
             except TypeError:
                 raise TypeError(f"the column {name!r} of a table that was pickled has no numbers for a stream") from None
             is_label = self.value == "label"
