@@ -250,7 +250,8 @@ static long left; /* how many requests for memory are met before one isn't; belo
 
 void *some_memory(size_t size)
 {
-    return __atomic_load_n(&left, __ATOMIC_RELAXED) < 0 || __atomic_sub_fetch(&left, 1, __ATOMIC_RELAXED) >= 0 ? malloc(size) : NULL;
+    int is_met = __atomic_load_n(&left, __ATOMIC_RELAXED) < 0 || __atomic_sub_fetch(&left, 1, __ATOMIC_RELAXED) >= 0;
+    return is_met ? malloc(size) : NULL;
 }
 
 /* A stream of columns in one piece of memory, which is its owner. */

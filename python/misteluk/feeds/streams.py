@@ -97,7 +97,8 @@ def _ask(stream: Stream, call: int, into: Structure) -> None:
     code = GET(call)(byref(stream), byref(into))
     if code:
         told = TELL(stream.get_last_error)(byref(stream))
-        raise FeedFault(f"{NAME}: the stream fails by {code}: {told.decode('utf-8', 'replace') if told else 'no reason is given'}")
+        reason = told.decode("utf-8", "replace") if told else "no reason is given"
+        raise FeedFault(f"{NAME}: the stream fails by {code}: {reason}")
 
 
 def _release(it: Any) -> None:
