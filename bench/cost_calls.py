@@ -19,10 +19,6 @@ from bench.places import TOP
 
 SOURCE = TOP / "bench/c/costs.c"
 CALLS: List[str] = re.findall(r'(?m)^    \{"([^"]+)", prepare_', SOURCE.read_text(encoding="utf-8"))
-# What misteluk.h takes of the C library's headers, which the toolchain doesn't have.
-HEADERS = {"stddef.h": "typedef __SIZE_TYPE__ size_t;\n#define NULL ((void *)0)\n",
-           "stdint.h": "".join(f"typedef __{it.upper()}_TYPE__ {it}_t;\n" for it in ("uint8", "uint32", "uint64", "int64"))
-           + "#define UINT32_MAX 0xffffffffu\n#define UINT64_MAX 0xffffffffffffffffu\n"}
 FLAGS = "--no-default-config -O1 -Wall -Wextra -Werror -fPIE -nostdinc".split()
 
 
@@ -42,7 +38,7 @@ def built(room: pathlib.Path, library: pathlib.Path) -> pathlib.Path:
     """The program of bench/c/costs.c over a library, by the toolchain's own compiler and linker."""
     kit = tools().find_kit() / "toolchain"
     code, made = room / "costs.o", room / "costs"
-    for name, text in HEADERS.items():
+    for name, text in tools().linking.HEADERS.items():
         (room / name).write_text(text)
     begin, end = ([kit / "lib" / it for it in names] for names in (
         ("Scrt1.o", "crti.o"), ("libc.so.6", "libc_nonshared.a", "crtn.o")))

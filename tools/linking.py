@@ -1,11 +1,20 @@
-"""How a shared and a static library are made of what the toolchain compiles: by its own compiler, linker and archiver; and what
-stands beside them for who links with them."""
+"""How a shared and a static library are made of what the toolchain compiles, and of the part in plain C: by its own compiler,
+linker and archiver; and what stands beside them for who links with them."""
 import os
 import pathlib
 import re
 
 TOP = pathlib.Path(__file__).resolve().parent.parent
 HEADER = TOP / "include/misteluk.h"
+# The part in C, which nobody proves; and what it takes of the C library's headers, which the toolchain doesn't have.
+PLAIN, OF_PLAIN = TOP / "c/arrow.c", TOP / "include/misteluk_arrow.h"
+HEADERS = {"stddef.h": "typedef __SIZE_TYPE__ size_t;\n#define NULL ((void *)0)\n",
+           "stdint.h": "".join(f"typedef __{it.upper()}_TYPE__ {it}_t;\n" for it in ("uint8", "uint32", "uint64", "int64"))
+           + "#define UINT32_MAX 0xffffffffu\n#define UINT64_MAX 0xffffffffffffffffu\n",
+           "stdlib.h": "void *malloc(size_t), *calloc(size_t, size_t);\nvoid free(void *);\n",
+           "errno.h": "#define ENOMEM 12\n"}
+CLANG = """--target=x86_64-unknown-linux-gnu -march=x86-64 --no-default-config -nostdinc -std=c11 -O1 -fPIC -ffunction-sections
+    -Wall -Wextra -Werror -c""".split()
 # A function of the crate that C may call, as `rt try` lowers it: what it returns, its name within, its own, its parameters.
 EXPORTED = re.compile(r'(?m)^define internal (?:noundef )?(\w+) (@"misteluk_c::(?:\w+::)*(misteluk_\w+)")\((.*?)\)')
 SHARED = """-shared --gc-sections --no-undefined --no-allow-shlib-undefined --build-id=none -z now -z relro -z noexecstack
@@ -78,9 +87,20 @@ class Linker:
         self.build, self.kit = build, kit
         self.shared, self.static = (build.room / it for it in ("libmisteluk.so", "libmisteluk.a"))
 
+    def plain(self):
+        """Compiles the part in C, and returns what that makes, or nothing."""
+        made = self.build.room / "plain.o"
+        for name, text in HEADERS.items():
+            (self.build.room / name).write_text(text)
+        words = [f"-I{self.build.room}", f"-I{OF_PLAIN.parent}", "-o", made, PLAIN]
+        return self.build.run(f"{self.kit}/toolchain/bin/clang", *CLANG, *words) and made
+
     def link(self, *objects):
         """Makes both libraries of objects and archives, and returns whether it could. They need the C library alone, and of it
         what the kit's own C asks for: memory."""
+        objects = *objects, self.plain()
+        if not objects[-1]:
+            return False
         bin, lib = f"{self.kit}/toolchain/bin", f"{self.kit}/toolchain/lib"
         memory = f"{self.kit}/c/liblibc_c.a"
         script = [f"create {self.static}", f"addlib {memory}"]

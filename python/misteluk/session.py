@@ -186,7 +186,7 @@ class Session(Generic[W, T]):
             return totals.degrees_among(self, among, kind, since, until)
         scope, asked = self._scope("degrees", kind, since, until)
         found = self._asked(self._held.degrees, asked, scope)
-        return self._answer("degree", asked, degrees(*found, self._terms.units._weights_told))
+        return self._answer("degree", asked, degrees(*found, self._terms.units))
 
     def flows(self, earlier: Session[Any, Any], kind: Optional[str] = None) -> Answer[Flow[W]]:
         """Returns what became of each vertex's edges since an earlier version: how many of those that go out and come in are
@@ -210,7 +210,7 @@ class Session(Generic[W, T]):
         {'kassel': 0, 'fulda': 105, 'hanau': 308, 'bonn': 180}
         """
         scope, asked = self._scope("weights_in", kind, since, until)
-        weights = Values(self._asked(self._held.weights_in, asked, scope), self._terms.units._weights_told)
+        weights = Values.of_weights(self._asked(self._held.weights_in, asked, scope), self._terms.units)
         return self._answer("weight_in", asked, {"weight_in": weights})
 
     # One edge, and all.

@@ -230,16 +230,18 @@ class Store(Uncopied, Opened, Generic[W, T]):
     @reads
     def load(self, data: Any, *, by: By, batch: Optional[int] = None, collect: bool = True, skip_bad: bool = False,
              rejects: Optional[Path] = None, progress: Optional[bool] = None, **read_as: Unpack[ReadOptions]) -> Loaded:
-        """Loads a file, a graph, a sparse matrix, a DataFrame, columns by name, rows, or a `Survey`, and commits it.
+        """Loads a file, graph, sparse matrix, DataFrame, Arrow table, columns by name, rows, or a `Survey`, and commits it.
 
         >>> store.load([("bonn", "kassel", 230, 5, "road")], by="set").commit.inserted
         1
 
-        A file is its path (`-` is standard input), a graph one of networkx, igraph or graph-tool, a matrix one of scipy. A row
-        is a dict, or a tuple of source, target and then, if there are more, weight, time and kind. `columns` says which columns
-        have kinds, weights and times. A later row of the same edge replaces the weight with `by="set"`, and adds to it with
-        `by="add"`. Rows are applied in batches of `batch`, 1 to 4,096, each of which makes a version; a collection follows each,
-        unless `collect=False`. Without `batch` they have up to 65,536 rows, if blocks are free; an empty store takes all at once.
+        A file is its path (`-` is standard input), a graph one of networkx, igraph or graph-tool, a matrix one of scipy, an Arrow
+        table what has `__arrow_c_stream__`, such as a polars frame or `Edges`. A row is a dict, or a tuple of source, target and
+        then, if there are more, weight, time and kind. `columns` says which columns have kinds, weights and times. A later row of
+        the same edge replaces the weight with `by="set"`, and adds to it with `by="add"`.
+
+        Rows are applied in batches of `batch`, 1 to 4,096, each of which makes a version; a collection follows each, unless
+        `collect=False`. Without `batch` they have up to 65,536 rows, if blocks are free; an empty store takes all at once.
 
         Everything is read and checked first. Nothing is applied if rows are bad (`BadRows` has line, field and reason; `skip_bad`
         skips and counts them), if the feed is more than the store takes (`OverLimit`, with counts), or if its units aren't the

@@ -51,7 +51,7 @@ def degrees_among(session: Session[Any, Any], among: Iterable[str], kind: Option
     _, sources, targets, weights, *_ = inner._columns
     columns = counted(sources, count), counted(targets, count), summed(sources, weights, count)
     out, into, weight_out = ([it[at] for at in places.values()] for it in columns)
-    found = degrees(out, into, weight_out, edges.units._weights_told)
+    found = degrees(out, into, weight_out, edges.units)
     return session._answer("degree", Called("degrees", (), {"among": list(places)}), found, tuple(places))
 
 
@@ -68,11 +68,11 @@ def flows(later: Session[Any, Any], earlier: Session[Any, Any], kind: Optional[s
 
 def _moved(diff: Diff[Any, Any], count: int) -> Dict[str, Values]:
     """For each vertex, of so many, how many edges of a difference go out and come in, and by how much their weight grew."""
-    parts, told = (diff.gone, diff.before, diff.new, diff.after), diff.after.units._weights_told
+    parts, units = (diff.gone, diff.before, diff.new, diff.after), diff.after.units
     gone, before, new, after = (it._columns[WEIGHT] for it in parts)
     grown, counts, sums = array("q", [-it for it in gone + before]) + new + after, [], []
     for side in (SOURCE, TARGET):
         gone, before, new, after = (it._columns[side] for it in parts)
         counts.append(Values(counted(gone + new + after, count)))
-        sums.append(Values(summed(gone + before + new + after, grown, count), told))
+        sums.append(Values.of_weights(summed(gone + before + new + after, grown, count), units))
     return dict(zip(OF_FLOWS, counts + sums))

@@ -64,7 +64,8 @@ class Loading(Case):
         loaded = subprocess.run([sys.executable, "-c", code], stdout=subprocess.PIPE, text=True, cwd=HERE.parent, check=True,
                                 timeout=60).stdout.split()
         later = {"asyncio", "ssl", "http", "email", "logging", "tempfile", "subprocess", "numpy", "sqlite3", "hashlib", "html",
-                 "misteluk.journal", "misteluk.serve", "misteluk.page", "misteluk.command", "misteluk.saving"}
+                 "misteluk.journal", "misteluk.serve", "misteluk.page", "misteluk.command", "misteluk.saving",
+                 "misteluk.engine.lending", "misteluk.feeds.streams"}
         self.assertEqual(later & set(loaded), set())
         self.assertIn("misteluk.engine.library", loaded)
         code = "import sys, misteluk; print(*sorted(sys.modules))"

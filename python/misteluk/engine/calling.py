@@ -7,7 +7,7 @@ import threading
 from array import array
 from ctypes import c_uint64, sizeof
 from itertools import chain
-from typing import Any, Dict, List, NamedTuple, Optional, Tuple
+from typing import Any, Callable, Dict, List, NamedTuple, Optional, Tuple
 
 from . import interface
 from .finding import next_step
@@ -27,6 +27,8 @@ FEW, MOST_AT_ONCE = 6, 65_536
 # How the counts of a batch stand in memory.
 _COUNTS = struct.Struct("=7Q")
 _OPENED: "Dict[Tuple[str, int], Tuple[Library, Handles]]" = {}
+# What else gives something back, once it is used (`engine.lending`).
+LENDERS: "List[Callable[[], None]]" = []
 
 
 def opened(path: str) -> "Tuple[Library, Handles]":
@@ -100,6 +102,8 @@ class Handles(NamedTuple):
             desks.give_back(library.desk_free)
         if diffs.gone or diffs.left:
             diffs.give_back(library.diff_free)
+        for it in LENDERS:
+            it()
 
 
 class Known(NamedTuple):

@@ -183,7 +183,7 @@ def _warn_of_idle(names: Sequence[str]) -> None:
 def from_pandas(frame: Any, columns: Columns = Columns()) -> Feed:
     """A pandas frame. A row with a missing value (`None`, NaN, NaT, NA) in one of the columns is a bad row."""
     names = [str(it) for it in frame.columns]
-    return Feed("frame", Table(lambda: _blocks("frame", columns, names, lambda at: frame.iloc[:, at], len(frame))))
+    return Feed("frame", Table(lambda: column_blocks("frame", columns, names, lambda at: frame.iloc[:, at], len(frame))))
 
 
 def from_columns(table: Mapping[str, Iterable[Any]], columns: Columns = Columns()) -> Feed:
@@ -192,10 +192,11 @@ def from_columns(table: Mapping[str, Iterable[Any]], columns: Columns = Columns(
     if len(set(map(len, found.values()))) > 1:
         raise FeedFault(f"the columns aren't equally long: {', '.join(f'{name} has {len(it)}' for name, it in found.items())}")
     values = list(found.values())
-    return Feed("columns", Table(lambda: _blocks("columns", columns, list(found), values.__getitem__, len([*values, []][0]))))
+    size = len([*values, []][0])
+    return Feed("columns", Table(lambda: column_blocks("columns", columns, list(found), values.__getitem__, size)))
 
 
-def _blocks(feed: str, columns: Columns, names: List[str], column: Callable[[int], Any], size: int) -> Iterator[Block]:
+def column_blocks(feed: str, columns: Columns, names: List[str], column: Callable[[int], Any], size: int) -> Iterator[Block]:
     """The rows of columns that have so many values each; `column` gives them by place."""
     picked = Picked(feed, columns, names)
     if size and len(names) < picked.least:

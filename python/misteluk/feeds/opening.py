@@ -116,11 +116,14 @@ def _of_object(data: Any, columns: Columns, both_ways: bool) -> Feed:
         return from_matrix(data, columns)
     if hasattr(data, "itertuples"):
         return from_pandas(data, columns)
+    if hasattr(data, "__arrow_c_stream__"):
+        from .streams import from_arrow
+        return from_arrow(data, columns)
     if isinstance(data, Mapping):
         return from_columns(data, columns)
     if isinstance(data, Iterable) and not isinstance(data, (bytes, bytearray)):
         return from_rows(data, columns)
-    raise TypeError("a feed is a file's path, a graph, a sparse matrix, a frame, columns by name or rows, and not "
+    raise TypeError("a feed is a file's path, a graph, a sparse matrix, a frame, a table, columns by name or rows, and not "
                     f"{type(data).__name__}")
 
 

@@ -2,6 +2,7 @@
 from __future__ import annotations
 
 import heapq
+import operator
 from array import array
 from collections import Counter
 from dataclasses import dataclass, fields, is_dataclass
@@ -10,6 +11,7 @@ from typing import (TYPE_CHECKING, Any, Callable, Dict, Generic, ItemsView, Iter
                     NamedTuple, Optional, Sequence, Tuple, TypeVar, ValuesView)
 
 from .arrays import ReadOnlyArray, cut
+from .streamed import Streamed, StreamedColumn
 from ..errors import needed
 
 if TYPE_CHECKING:
@@ -181,21 +183,35 @@ class Neighbor(Generic[W, T]):
     into: Optional[Edge[W, T]]
 
 
+# Arrow's formats of an array's numbers.
+FORMATS = {"I": "I", "q": "l", "Q": "L"}
 # The columns of degrees and of flows, and what a row of these is.
 OF_DEGREES, OF_FLOWS = (tuple(it.name for it in fields(kind)) for kind in (Degree, Flow))
 ROWS: Dict[Tuple[str, ...], Any] = {OF_DEGREES: Degree, OF_FLOWS: Flow}
 
 
 class Values(NamedTuple):
-    """The values of a table's column: as arrays have them, and how a user is told them, where that is something else."""
+    """The values of a table's column: as arrays have them, how a user is told them, where that is something else, and how many
+    parts of a weight make 1."""
 
     values: Sequence[int]
     told: Optional[Callable[[Sequence[int]], Sequence[Any]]] = None
+    scale: int = 1
+
+    @classmethod
+    def of_weights(cls, weights: Sequence[int], units: Any) -> Values:
+        """Weights in these units."""
+        return cls(weights, None if units.scale == 1 else units._all_weights_to_user, units.scale)
 
     def all_told(self, at: slice = slice(None)) -> Sequence[Any]:
         """The values in these places, as a user is told them."""
         values = self.values if at == slice(None) else self.values[at]
         return values if self.told is None else self.told(values)
+
+    def as_array(self) -> array[int]:
+        """The values where they are. Raises `TypeError` where they are no whole numbers any more."""
+        values = self.values
+        return values._numbers if isinstance(values, ReadOnlyArray) else array("q", map(operator.index, values))
 
     def read_only(self) -> Values:
         """The same, which nobody can change."""
@@ -204,7 +220,7 @@ class Values(NamedTuple):
                              values if isinstance(values, ReadOnlyArray) else tuple(values))
 
 
-class Answer(Mapping[str, V], Generic[V]):
+class Answer(Streamed, Mapping[str, V], Generic[V]):
     """A table of a version by name: a mapping from each name to its value, in the version's order, which nobody can change.
 
     >>> levels = session.levels("kassel", kind="road")
@@ -306,6 +322,20 @@ class Answer(Mapping[str, V], Generic[V]):
         if not told:
             return _with_rows, (type(self), self._rows, self.version, self.request, self.value)
         return type(self)._of, (self.names, told, self.version, self.request, self.value)
+
+    def _streamed(self) -> List[StreamedColumn]:
+        if not self.columns:
+            raise TypeError("a table that was made of rows has no columns for a stream: a session's answers have them")
+        found = [StreamedColumn("name", "U", None, self.names)]
+        for name, it in self.columns.items():
+            try:
+                numbers = it.as_array()
+            except TypeError:
+                raise TypeError(f"the column {name!r} of a table that was pickled has no numbers for a stream") from None
+            is_label = self.value == "label"
+            found.append(StreamedColumn(name, "i" if is_label else FORMATS[numbers.typecode], numbers,
+                                        self.names if is_label else None, it.scale))
+        return found
 
     def to_numpy(self) -> Dict[str, numpy.ndarray[Any, Any]]:
         """Returns the columns by name as numpy arrays of your own, with each value in the place of its name in `names`.
@@ -422,9 +452,9 @@ def shown_as_html(title: str, told: Mapping[str, object]) -> str:
     return f"<table><caption>{escape(title)}</caption>{rows}</table>"
 
 
-def degrees(out: Sequence[int], into: Sequence[int], weights: Sequence[int], told: Any) -> Dict[str, Values]:
+def degrees(out: Sequence[int], into: Sequence[int], weights: Sequence[int], units: Any) -> Dict[str, Values]:
     """The columns of a table of degrees."""
-    return dict(zip(OF_DEGREES, (Values(out), Values(into), Values(weights, told))))
+    return dict(zip(OF_DEGREES, (Values(out), Values(into), Values.of_weights(weights, units))))
 
 
 def _with_rows(kind: Any, rows: Any, version: int, request: str, value: str) -> Answer[Any]:

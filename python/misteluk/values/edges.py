@@ -10,6 +10,7 @@ from .adjacency import filled
 from .answers import ROWS_SHOWN, Edge, T, W, rows_as_html
 from .arrays import ReadOnlyArray, cut
 from .fields import fields_of_csv, numpy_for
+from .streamed import Streamed, StreamedColumn
 from .units import Units
 from .texts import Path
 from ..errors import needed
@@ -33,7 +34,7 @@ else:
     Told = Tuple[str, str, str, Any]
 
 
-class Edges(Sequence["Told[W, T]"], Generic[W, T]):
+class Edges(Streamed, Sequence["Told[W, T]"], Generic[W, T]):
     """Edges as columns of one length, and as a sequence of (kind, source, target, `Edge`).
 
     >>> edges = session.edges(kind="road")
@@ -43,7 +44,14 @@ class Edges(Sequence["Told[W, T]"], Generic[W, T]):
     `kind`, `source` and `target` have numbers, which are places in `kinds` and `names`, as in Arrow's dictionary arrays. Names
     keep their numbers from version to version, unless the store starts over. `weight`, `first` and `recent` have whole numbers:
     weights in the parts that the store counts (`units.weight_scale` make 1), dates in microseconds since 1970. Nobody can change
-    the arrays, which may be the session's own; a DataFrame is a copy."""
+    the arrays, which may be the session's own; a DataFrame is a copy.
+
+    Edges are an Arrow stream too (`__arrow_c_stream__`), as tables are: polars, pyarrow, duckdb and `load` take them as they are.
+
+    >>> copy = Store()
+    >>> copy.load(edges, by="set", columns=Columns(kind="kind", weight="weight", time="recent")).commit.inserted
+    3
+    """
 
     def __init__(self, kinds: Sequence[str], names: Sequence[str], units: Units[W, T], columns: Sequence[array[int]]) -> None:
         self.kinds, self.names, self.units, self._columns = kinds, names, units, columns
@@ -168,6 +176,13 @@ class Edges(Sequence["Told[W, T]"], Generic[W, T]):
         """The weights and both times in the store's units, by column."""
         return [self.units._all_weights_to_user(self.weight), self.units._all_times_to_user(self.first),
                 self.units._all_times_to_user(self.recent)]
+
+    def _streamed(self) -> List[StreamedColumn]:
+        names = {"kind": self.kinds, "source": self.names, "target": self.names}
+        time = "tsu:UTC" if self.units.has_dates else "l"
+        formats, scales = {"weight": "l", "first": time, "recent": time}, {"weight": self.units.scale}
+        return [StreamedColumn(name, formats.get(name, "i"), numbers, names.get(name), scales.get(name, 1))
+                for name, numbers in zip(HEADER, self._columns)]
 
     def to_numpy(self) -> Dict[str, numpy.ndarray[Any, Any]]:
         """Returns the columns by name as numpy arrays, which are read-only views of these: to change one, take its `.copy()`.

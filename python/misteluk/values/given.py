@@ -157,13 +157,34 @@ class Coded(Whole):
 
 
 class Categories(Coded):
-    """A categorical of pandas."""
+    """A categorical of pandas, or a dictionary of Arrow."""
+
+    def __init__(self, numpy: Any, source: Any, texts_of: TextsOf, codes: Any, categories: Any) -> None:
+        super().__init__(numpy, source, texts_of, codes)
+        self._categories = categories
 
     def codes(self) -> "Tuple[Any, int]":
-        return self.source.cat.codes.to_numpy(), len(self.source.cat.categories)
+        return self.values, len(self._categories)
 
     def names(self, codes: Any) -> Sequence[str]:
-        return self.texts_of(self.source.cat.categories[codes], 1)
+        return self.texts_of(self._categories[codes], 1)
+
+
+class Dictionary(Sequence[Any]):
+    """Values by codes, of which each stands for one of a few, and -1 for none."""
+
+    def __init__(self) -> None:
+        self.codes = array("q")
+        self.categories: List[Any] = []
+
+    def __len__(self) -> int:
+        return len(self.codes)
+
+    def __getitem__(self, at: Any) -> Any:
+        known = self.categories
+        if isinstance(at, slice):
+            return [None if it < 0 else known[it] for it in self.codes[at]]
+        return self[at:at + 1][0]
 
 
 class Numbers(Coded):
@@ -261,7 +282,9 @@ def given(column: Any, texts_of: TextsOf) -> Optional[Given]:
 def _whole_of(numpy: Any, column: Any, texts_of: TextsOf) -> Whole:
     dtype: Any = getattr(column, "dtype", None)
     if hasattr(column, "cat"):
-        return Categories(numpy, column, texts_of)
+        return Categories(numpy, column, texts_of, column.cat.codes.to_numpy(), column.cat.categories)
+    if isinstance(column, Dictionary):
+        return Categories(numpy, column, texts_of, numpy.asarray(column.codes), numpy.array([*column.categories, None])[:-1])
     if getattr(dtype, "tz", None) is not None:
         return Moments(numpy, column, texts_of, column.to_numpy("datetime64[ns]"))
     if type(dtype).__module__.partition(".")[0] != "numpy" or dtype.kind in "OU":

@@ -232,11 +232,6 @@ class Units(Generic[W, T]):
         """Times as they are printed: numbers, or dates as `datetime.isoformat` has them."""
         return map(str, times) if not self.has_dates else each_once(lambda it: str(self._time_to_user(it).isoformat()), times)
 
-    @property
-    def _weights_told(self) -> Optional[Callable[[Sequence[int]], Sequence[Any]]]:
-        """How a column of weights is told, where that isn't as it is."""
-        return None if self.scale == 1 else self._all_weights_to_user
-
     def _edge_to_user(self, weight: int, first: int, recent: int) -> Edge[Any, Any]:
         """The edge, with its weight and times in these units."""
         if self.are_plain:
