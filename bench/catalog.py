@@ -85,6 +85,7 @@ def of_the_library_and_client() -> Iterator[Measurement]:
     yield Measurement("endless", "Is a feed without end right at ten points, and how long is its longest commit?", 3)
     yield Measurement("renewals", "How long does a store in process stand still when it starts over, by its edges?", 0.5)
     yield Measurement("latency", "How long does a commit take by its size, and a question by its version's age?", 4, ("numpy",))
+    yield Measurement("components", "What does an update of `LiveComponents` cost over five million edges?", 2, ("numpy",))
     yield Measurement("journal", "What do commits, openings, bases and posts of a store with a file take, and replicas?", 8,
                       ("starlette", "uvicorn"))
     yield Measurement("serve", "How long do a server's clients wait, and what does the feed lose?", 3, ("starlette", "uvicorn"))

@@ -88,6 +88,12 @@ class Passing:
     def hold(self, slot: Optional[int]) -> Any:
         return self.inner.hold(slot)
 
+    def hold_apart(self) -> Any:
+        return self.inner.hold_apart()
+
+    def listen(self, news: Any) -> None:
+        self.inner.listen(news)
+
     def rebase(self, version: Any) -> Compacted:
         return self.inner.rebase(version)
 
