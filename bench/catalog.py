@@ -89,6 +89,7 @@ def of_the_library_and_client() -> Iterator[Measurement]:
                       ("numpy", "g++"), ("igraph", "graph_tool", "scipy", "networkx"))
     yield Measurement("stream", "How many updates a second come in, alone and during scans, compared with plain maps?", 4,
                       ("numpy", "g++"))
+    yield Measurement("components", "What does an update of `LiveComponents` cost over five million edges?", 2, ("numpy",))
     yield Measurement("journal", "What do commits, openings, bases and posts of a store with a file take, and replicas?", 8,
                       ("starlette", "uvicorn"))
     yield Measurement("serve", "How long do a server's clients wait, and what does the feed lose?", 4, ("starlette", "uvicorn"))

@@ -15,6 +15,7 @@ Where a task begins (`help(misteluk.Store.load)` has more, and so on):
 - Amounts with cents, and dates: `Store(units=Units(weight_scale=100, times="iso"))`. Without units both are whole numbers.
 - Ask: `Store.open` returns a `Session`, with `degrees`, `weights_in`, `out_edges`, `in_edges`, `neighborhood`, `path`,
   `components` and others. Each answer has `to_pandas`; tables and edges have `top`; `Edges` have `to_networkx` too.
+  `LiveComponents` goes on with a feed.
 - Compare two versions: `Session.diff`, `Session.flows`. Draw them: `view`, which makes a page.
 - Keep: `Store("graph.db")` writes each commit to a file, and `Store.at` reads an earlier version of it. `Session.save` writes one
   version, and `Store.restore` reads it.
@@ -40,6 +41,7 @@ from .values.units import Units
 from .version import VERSION as __version__
 
 if TYPE_CHECKING:
+    from .components import LiveComponents
     from .feeds.following import Following
     from .feeds.loading import Loaded
     from .feeds.rejects import Rejected
@@ -54,16 +56,17 @@ if TYPE_CHECKING:
 
 # The modules that are loaded with the first of their names that somebody asks for.
 _LATER: Dict[str, str] = {name: module for module, names in {
-    "feeds.following": "Following", "feeds.loading": "Loaded", "feeds.rejects": "Rejected", "feeds.steps": "Followed",
-    "feeds.surveys": "Survey survey", "feeds.touched": "Touched", "page.view": "View view", "part": "Part", "saving": "Saved",
-    "serve.awaited": "AsyncSession", "serve.client": "ServedStore connect"}.items() for name in names.split()}
+    "components": "LiveComponents", "feeds.following": "Following", "feeds.loading": "Loaded", "feeds.rejects": "Rejected",
+    "feeds.steps": "Followed", "feeds.surveys": "Survey survey", "feeds.touched": "Touched", "page.view": "View view",
+    "part": "Part", "saving": "Saved", "serve.awaited": "AsyncSession",
+    "serve.client": "ServedStore connect"}.items() for name in names.split()}
 
 # What there is, in the order in which a newcomer meets it.
 __all__ = [
     "Store", "Session", "Units", "Limits", "Columns", "connect", "ServedStore", "AsyncSession", "Part",
     "survey", "Survey", "Loaded", "Following", "Followed", "Touched", "Rejected",
     "Commit", "Collected", "Compacted", "Stat", "Saved",
-    "Answer", "Components", "Degree", "Edge", "Edges", "Neighbor", "Diff", "Changed", "Flow", "view", "View",
+    "Answer", "Components", "LiveComponents", "Degree", "Edge", "Edges", "Neighbor", "Diff", "Changed", "Flow", "view", "View",
     "StoreError", "Refused", "BadRows", "NoVertex", "SessionClosed", "JournalError",
 ]
 

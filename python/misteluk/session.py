@@ -156,7 +156,11 @@ class Session(Generic[W, T]):
         {'kassel': 'kassel', 'fulda': 'fulda', 'hanau': 'kassel', 'bonn': 'bonn'}
         """
         scope, asked = self._scope("components", kind, since, until)
-        labels, names = self._asked(self._held.labels, asked, scope), self._all_names()
+        return self._components(self._asked(self._held.labels, asked, scope), asked)
+
+    def _components(self, labels: array[int], asked: Called) -> Components:
+        """The table of these labels, which are numbers of vertices."""
+        names = self._all_names()
         columns = {"label": Values(labels, lambda it: list(map(names.__getitem__, it)))}
         found: Components = Components._of(names, columns, self.version, str(asked), "label")
         return found

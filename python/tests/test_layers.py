@@ -17,7 +17,7 @@ from misteluk import errors
 PACKAGE = HERE.parent / "misteluk"
 # Modules import none of a layer behind their own.
 LAYERS = ("errors files names options values version", "engine", "feeds", "journal",
-          "diffs graphs hints ledger part saving session store totals walks", "page", "serve", "command")
+          "components diffs graphs hints ledger part saving session store totals walks", "page", "serve", "command")
 LAYER = {name: at for at, names in enumerate(LAYERS) for name in names.split()}
 
 

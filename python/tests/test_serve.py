@@ -254,6 +254,7 @@ class Feeds(ServeCase):
             with self.assertRaisesRegex(misteluk.StoreError, "a server's store has its file there: .* Idempotency-Key"):
                 served.commit(producer="ann", sequence=1)
             self.assertEqual(served.discard(), 1)
+            self.assertRaisesRegex(misteluk.StoreError, "a server's store keeps no components", misteluk.LiveComponents, served)
 
     def test_rows_are_checked_before_any_goes_in(self):
         self.serve()

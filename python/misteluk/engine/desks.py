@@ -2,6 +2,7 @@
 from __future__ import annotations
 
 import itertools
+import weakref
 from ctypes import c_uint64, sizeof
 from typing import List
 
@@ -11,6 +12,7 @@ from .copies import Content, opening_of, operations_of
 from .guard import Notes, Owned
 from .held import Opening
 from .interface import Code, Library
+from .news import News
 from .operations import Numbered, Operations
 from ..values.answers import Stat
 from ..values.limits import MOST_WEIGHT, Limits
@@ -29,6 +31,16 @@ class Desks:
         # The handle of a batch that was applied, and so has no operation: the next one takes it.
         self._empty: List[Owned] = []
         self._freed = c_uint64()
+        # Who hears of each batch that is in.
+        self._listeners: "List[weakref.ref[News]]" = []
+
+    def _take(self, flight: LibraryFlight, before: int) -> None:
+        """Takes what a batch did, where so many versions were made before the desk began, and tells of it."""
+        flight.take(before)
+        for it in self._listeners:
+            news = it()
+            if news is not None:
+                news.hear(flight)
 
     def _new(self, version: int, blocks: int, shape: Limits) -> Opening:
         """An opening with an empty desk, of so many versions before."""

@@ -211,17 +211,20 @@ class LibraryVersion(Walked):
 
     def names(self) -> List[str]:
         kept = self.kept
-        found = kept.names
-        if found is None:
-            found = kept.names = self._told(self._known.names, self._library.version_names, self.count)
-        return found
+        if kept.names is None:
+            kept.names = self.known_names()[:self.count]
+        return kept.names
+
+    def known_names(self) -> List[str]:
+        """The vertices by number, and perhaps those of later versions behind them, without a copy."""
+        return self._told(self._known.names, self._library.version_names, self.count)
 
     def kinds(self) -> List[str]:
-        return self._told(self._known.kinds, self._library.version_kind_names, self._kind_count)
+        return self._told(self._known.kinds, self._library.version_kind_names, self._kind_count)[:self._kind_count]
 
     def _told(self, known: List[str], call: Any, count: int) -> List[str]:
-        """The first names, so many; those that aren't known yet are asked for, with room for the longest ones where they are few,
-        and else for as many bytes as all names have, which the version has to add up."""
+        """All names that are known, the first of which are these, so many; those that aren't known yet are asked for, with room
+        for the longest ones where they are few, and else for as many bytes as all names have, which the version has to add up."""
         self._must_be_open()
         with self._known.lock:
             first = len(known)
@@ -234,7 +237,7 @@ class LibraryVersion(Walked):
                 text, ends = room("B", size), room("Q", count - first)
                 check(self._ask(call, first, address(text), size, address(ends), count - first))
                 known[first:] = texts_of(text, ends)
-        return known[:count]
+        return known
 
     # What it answers.
 

@@ -11,6 +11,7 @@ from __future__ import annotations
 import os
 import time
 import weakref
+from contextlib import suppress
 from ctypes import c_uint64
 from typing import Any, Dict, List, Optional, Sequence
 
@@ -22,6 +23,7 @@ from .finding import find_library
 from .guard import Guard, Owned, alone
 from .held import LibraryVersion, Opening
 from .interface import Code
+from .news import News
 from .operations import Operations
 from .protocol import LIBRARY, NO_FEEDS, Denied
 from ..errors import NoSeat, SessionClosed, StoreError
@@ -104,7 +106,7 @@ class LibraryEngine(Desks):
             opening = opening._replace(before=opening.number, kept=0)
         elif flight is not None and number > opening.number:
             more = flight.batch.batches - 1
-            flight.take(opening.before + more)
+            self._take(flight, opening.before + more)
             self._empty = [flight.owned]
             opening = opening._replace(before=opening.before + more, number=number + more, kept=opening.kept + flight.batch.size)
         return opening._replace(flying=None, begins_anew=False)
@@ -114,7 +116,7 @@ class LibraryEngine(Desks):
         and nothing was taken away or overflowed, so each edge was inserted once, and every other operation updated one."""
         number = opening.number + flight.batch.opens
         flight.counts.inserted, flight.counts.updated = stat.edges, flight.batch.size - stat.edges
-        flight.take(number)
+        self._take(flight, number)
         self._empty = [flight.owned]
         return opening._replace(before=number, number=number, kept=0)
 
@@ -251,11 +253,19 @@ class LibraryEngine(Desks):
         """The last version, to be read here."""
         try:
             return self._hold(opening, -1)
-        except NoSeat:  # (sixteen sessions have seats: the oldest one answers on without its own)
-            sessions = [it for it in (held() for held in self._held.values()) if it is not None and it.desk is opening.desk]
-            min(sessions, key=lambda it: it.number).leave_seat()
-            opening.holds.give_back(self.library.desk_release, opening.desk.raw)
-            return self._hold(opening, -1)
+        except NoSeat:  # (sixteen versions have seats: the oldest one that has its own answers on without it)
+            held = [it for it in (held() for held in self._versions) if it is not None and it.desk is opening.desk]
+            for version in sorted(held, key=lambda it: it.number):
+                version.leave_seat()
+                opening.holds.give_back(self.library.desk_release, opening.desk.raw)
+                with suppress(NoSeat):
+                    return self._hold(opening, -1)
+            raise
+
+    @alone
+    def listen(self, news: News) -> None:
+        """Has somebody hear of each batch that is in, as long as there is somebody."""
+        self._listeners = [*(it for it in self._listeners if it() is not None), weakref.ref(news)]
 
     @alone
     def hold_apart(self) -> LibraryVersion:

@@ -203,6 +203,12 @@ class Operations:
         """The vertices that the operations name, each once, in their order. (Which edges expire they don't say.)"""
         return self.names_of_vertices()()
 
+    def ends(self, most: int) -> Optional[List[Tuple[str, str]]]:
+        """The ends of each edge that the operations insert or add to; `None` where their columns know more names than so many."""
+        if self._rows is None and len(self.columns.of_names.encoded[1]) > most:
+            return None
+        return [(it[2], it[3]) for it in self.rows if it[0] < REMOVE]
+
     def names_of_vertices(self) -> "Callable[[], List[str]]":
         """What gives them, which keeps of rows no more than the names."""
         if self._rows is None:

@@ -77,7 +77,7 @@ class WaitingEngine(LibraryEngine):
         self.library.desk_finish(desk, flight.counts) if is_accepted else self.library.desk_cancel(desk)
         number = self._stat(opening).version
         if number > opening.number:
-            flight.take(opening.before)
+            self._take(flight, opening.before)
             self._opening = opening._replace(number=number, kept=opening.kept + flight.batch.size)
 
     # How the engine does it.

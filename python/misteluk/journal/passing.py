@@ -30,6 +30,8 @@ class Passing:
     stat: Any = _passed("stat")
     collect: Any = _passed("collect")
     hold: Any = _passed("hold")
+    hold_apart: Any = _passed("hold_apart")
+    listen: Any = _passed("listen")
     rebase: Any = _passed("rebase")
     renew: Any = _passed("renew")
     close: Any = _passed("close")
