@@ -188,7 +188,7 @@ class Releases(Case):
         for name in ("libmisteluk.so", "libmisteluk.a"):
             self.assertEqual((there / "lib" / name).read_bytes(), (pathlib.Path(find_library()).parent / name).read_bytes())
         self.assertIn(hashlib.sha256((there / "lib/libmisteluk.so").read_bytes()).hexdigest(), (there / "PROVED.md").read_text())
-        self.assertEqual({it.name for it in (there / "include").iterdir()}, {"misteluk.h"})
+        self.assertEqual({it.name for it in (there / "include").iterdir()}, {"misteluk.h", "misteluk_arrow.h"})
         if not shutil.which("cc") or not shutil.which("pkg-config"):
             return
         command = "cc examples/c/roads.c $(pkg-config --cflags --libs misteluk)"
