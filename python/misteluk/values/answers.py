@@ -208,7 +208,7 @@ class Values(NamedTuple):
         values = self.values if at == slice(None) else self.values[at]
         return values if self.told is None else self.told(values)
 
-    def as_array(self) -> array[int]:
+    def _as_array(self) -> array[int]:
         """The values where they are. Raises `TypeError` where they are no whole numbers any more."""
         values = self.values
         return values._numbers if isinstance(values, ReadOnlyArray) else array("q", map(operator.index, values))
@@ -329,7 +329,7 @@ class Answer(Streamed, Mapping[str, V], Generic[V]):
         found = [StreamedColumn("name", "U", None, self.names)]
         for name, it in self.columns.items():
             try:
-                numbers = it.as_array()
+                numbers = it._as_array()
             except TypeError:
                 raise TypeError(f"the column {name!r} of a table that was pickled has no numbers for a stream") from None
             is_label = self.value == "label"
