@@ -1,4 +1,5 @@
 """What became of edges between two versions that a desk holds, beside the edges of both."""
+import os
 import random
 import unittest
 from ctypes import c_uint32, c_uint64, sizeof
@@ -8,6 +9,8 @@ from calls import ANY_KIND, EVER, Batch, Code, Desk, Version, column, interface,
 from differing import diff_columns, differences
 from places import library
 
+# How many differences are asked for at random.
+COUNT = int(os.environ.get("DIFFERENCES", "240"))
 GONE, NEW, CHANGED = interface.GONE, interface.NEW, interface.CHANGED
 Marks = Tuple[int, int, int]
 
@@ -15,7 +18,7 @@ Marks = Tuple[int, int, int]
 def by_source(version: Version, seen: interface.View) -> "Dict[int, Dict[Tuple[int, int], Marks]]":
     """What edges bear, by their kinds and targets, of each source in the order of its row."""
     found: Dict[int, Dict[Tuple[int, int], Marks]] = {}
-    for kind, source, target, *marks in version.edges(seen, 4_096):
+    for kind, source, target, *marks in version.edges(seen, version.size.edges):
         found.setdefault(source, {})[kind, target] = (marks[0], marks[1], marks[2])
     return found
 
@@ -64,12 +67,16 @@ class Diffs(unittest.TestCase):
         batch.free()
 
     def test_at_random(self) -> None:
+        """Versions of a desk that begins anew between, and reuses what no version has."""
         made = random.Random(31)
-        for _ in range(8):
+        for _ in range(COUNT // 30):
             held: List[Version] = []
+            if made.random() < 0.4:
+                self.desk.rebase()
             for _ in range(8):
                 self.change(made, made.choice((1, 5, 100)))
                 held.append(self.desk.hold())
+                self.desk.collect()
             for _ in range(30):
                 first, last = sorted(made.choices(range(8), k=2))
                 begin, kinds = made.randrange(60), range(held[last].size.kinds)
@@ -82,6 +89,25 @@ class Diffs(unittest.TestCase):
                 self.assertEqual(differences(self.desk, held[first], held[last], seen, made.choice((1, 6, 500))), wanted)
             for it in held:
                 self.desk.release(it)
+
+    def test_a_hub(self) -> None:
+        """Of 65,536 edges in 2,048 blocks some are dropped, whole runs of blocks among them, some changed, and some are new."""
+        desk, names = Desk(library(), 16_384), [b"v%d" % it for it in range(65_536)]
+        self.addCleanup(desk.free)
+        edges = [(0, target, 1, 1) for target in range(len(names))]
+        self.assertEqual(desk.insert_columns(b"k", names, edges)[:2], (Code.OK, len(edges)))
+        first, made, batch = desk.hold(), random.Random(5), Batch(library())
+        for target in (*made.sample(range(65_536), 500), *range(9_000, 10_500)):
+            batch.remove(b"k", b"v0", names[target])
+        for target in (*made.sample(range(65_536), 500), *range(30_000, 30_070)):
+            batch.insert(made.choice((b"k", b"l")), b"v0", names[target], 2, 2)
+        desk.apply(batch)
+        batch.free()
+        last = desk.hold()
+        for seen in (view(), view(window=(2, 2))):
+            self.assertEqual(differences(desk, first, last, seen, 4_096), plain(first, last, seen))
+        for it in (first, last):
+            desk.release(it)
 
     def test_what_is_refused(self) -> None:
         it, pair, made = library(), interface.Diff(), random.Random(2)

@@ -1,5 +1,6 @@
 pub mod GrownNames
 pub mod HeldPairs
+pub mod KeptBlocks
 pub mod KeptVersions
 pub mod OwnedHeld
 pub mod OwnedLaws

@@ -10,7 +10,7 @@ use Rattle.graph_types.specs.declared.batches.NamedOp.{NamedOp}
 use Rattle.store_steps.specs.{Acceptances.Accepts, Desks.DeskView}
 use Rattle.store_steps.proofs.AcceptedDesk.{batches_after}
 use Rattle.owned_desk.specs.OwnedReady.{IsOwnedReady}
-use Rattle.graph_version.specs.Versions.{VersionView}
+use Rattle.graph_version.specs.Versions.{VersionView, IsVersion}
 use Rattle.owned_desk.specs.Kept.{KeptView}
 use Rattle.owned_desk.specs.Owned.{OwnedView, IsOwned, IsHoldCounted, IsSeatFor, KeepsOwned, count_at, held_pin, opened_owned, owned_view, with_hold}
 use Rattle.owned_desk.proofs.KeptVersions.{none_kept}
@@ -29,13 +29,13 @@ opened_is_owned d n = record {
 }
 
 -- and so it is with a board that was made, and with what is kept
-pub opens_owned : (d : DeskView) (n : ℕ) (board : BoardState) (kept : KeptView) → board ≡ no_pins
+pub opens_owned : (d : DeskView) (n : ℕ) (board : BoardState) (kept : KeptView) → IsVersion d.last → board ≡ no_pins
     → kept ≡ record { versions = replicate SEATS None; touched = [] }
     → KeepsOwned (owned_view d board (replicate SEATS 0) n kept) kept.touched
-opens_owned d n board kept is none =
+opens_owned d n board kept version is none =
     subst (λ (b : BoardState). KeepsOwned (owned_view d b (replicate SEATS 0) n kept) kept.touched) (sym is)
     (subst (λ (k : KeptView). KeepsOwned (owned_view d no_pins (replicate SEATS 0) n k) k.touched) (sym none)
-    (record { owned = opened_is_owned d n; kept = none_kept d.last [] }))
+    (record { owned = opened_is_owned d n; kept = none_kept d [] version }))
 
 -- One seat is changed
 
@@ -151,6 +151,29 @@ owned_with o versions is = record {
 }
 
 -- The board
+
+-- each pin is settled
+pub pins_settled : (o : OwnedView) → IsOwned o → (seat : ℕ) (pin : Pin) → seat < SEATS → pin_at o.board.pins seat ≡ Some pin
+    → pin.is_settled ≡ true
+pins_settled o is seat pin low at =
+    let counted : IsHoldCounted (length o.desk.last.batches) (Some pin) (count_at o.counts seat) =
+    subst (λ p. IsHoldCounted (length o.desk.last.batches) p (count_at o.counts seat)) at (is.counted seat low) in
+    ap (λ (p : Pin). p.is_settled) counted.1
+
+-- a collection changes neither the last version nor the pins
+pub collected_owned : (o : OwnedView) (desk : DeskView) (board : BoardState) → IsOwned o → desk.last ≡ o.desk.last
+    → board.pins ≡ o.board.pins → board.floor ≤ length o.desk.last.batches → IsOwned (record o { desk = desk; board = board })
+collected_owned o desk board is last pins low = record {
+  pins = ap length pins ∙ is.pins;
+  seats = is.seats;
+  floor_low = subst (λ (v : VersionView). board.floor ≤ length v.batches) (sym last) low;
+  counted = λ seat within.
+      subst (λ (ps : List (Option Pin)). IsHoldCounted (length desk.last.batches) (pin_at ps seat) (count_at o.counts seat)) (sym pins)
+      (subst (λ (v : VersionView). IsHoldCounted (length v.batches) (pin_at o.board.pins seat) (count_at o.counts seat)) (sym last)
+      (is.counted seat within));
+  apart = subst (λ (ps : List (Option Pin)). (a b number : ℕ) → a < SEATS → b < SEATS → pin_at ps a ≡ Some (held_pin number)
+      → pin_at ps b ≡ Some (held_pin number) → a ≡ b) (sym pins) is.apart;
+}
 
 -- a pin at a floor that is no more than a number, settled at it
 pub pin_held : (floor number : ℕ) → floor ≤ number → settled number (unsettled floor) ≡ held_pin number

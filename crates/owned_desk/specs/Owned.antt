@@ -50,7 +50,7 @@ pub record IsOwned (o : OwnedView) : Type 0 where
 -- and each seat's version is kept, with the sources that later batches touched
 pub record KeepsOwned (o : OwnedView) (touched : List ℕ) : Type 0 where
   pub owned : IsOwned o
-  pub kept : KeepsVersions o.desk.last o.board.pins (record { versions = o.versions; touched = touched })
+  pub kept : KeepsVersions o.desk o.board.pins (record { versions = o.versions; touched = touched })
 
 -- as it opens: nothing is held
 abbrev pub opened_owned : DeskView → ℕ → OwnedView

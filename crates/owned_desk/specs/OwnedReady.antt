@@ -19,5 +19,5 @@ pub record IsOwnedReady (r : OwnedReadyView) : Type 0 where
 -- and each seat's version is kept, before and after, with the sources that later batches touched, this one too
 pub record KeepsReady (r : OwnedReadyView) (touched : List ℕ) : Type 0 where
   pub ready : IsOwnedReady r
-  pub before : KeepsVersions r.old.desk.last r.old.board.pins (record { versions = r.old.versions; touched = touched })
-  pub after : KeepsVersions r.new.last r.old.board.pins (record { versions = r.old.versions; touched = touched })
+  pub before : KeepsVersions r.old.desk r.old.board.pins (record { versions = r.old.versions; touched = touched })
+  pub after : KeepsVersions r.new r.old.board.pins (record { versions = r.old.versions; touched = touched })

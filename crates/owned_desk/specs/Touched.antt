@@ -1,5 +1,6 @@
 -- By source, the number of the last batch that touched it.
-use Rattle.std.specs.{Prelude.{◌≡◌, ℕ, ◌<◌, ◌==◌, Bool, List, All, slice_index_or, nat_lt, if◌then◌else◌}, List.list_any}
+use Rattle.std.specs.Prelude.{◌≡◌, ℕ, ◌<◌, ◌≤◌, ◌/◌, ◌==◌, ◌&&◌, Bool, List, All, slice_index_or, nat_lt, if◌then◌else◌}
+use Rattle.std.specs.List.{list_any}
 use Rattle.graph_types.specs.declared.ids.VertexId.{VertexId}
 use Rattle.version_diff.specs.Pairs.{AreSourcesRising}
 
@@ -22,7 +23,17 @@ TouchesSources sources number old new =
 abbrev pub HaveRoom : ℕ → List VertexId → Type 0
 HaveRoom room sources = All (λ v. v.0 < room) sources
 
+-- a bound of each 64 sources, which is at least each of their numbers
+abbrev pub AreBounds : List ℕ → List ℕ → Type 0
+AreBounds bounds numbers = (s : ℕ) → number_at numbers s ≤ number_at bounds (s / 64)
+
 -- the sources that batches of greater numbers touched, rising
 pub record AreTouchedSince (number : ℕ) (numbers : List ℕ) (sources : List VertexId) : Type 0 where
   pub rising : AreSourcesRising sources
   pub are : (s : ℕ) → is_source sources s ≡ nat_lt number (number_at numbers s)
+
+-- those of them that are below an end
+pub record AreTouchedBelow (end number : ℕ) (numbers : List ℕ) (sources : List VertexId) : Type 0 where
+  pub rising : AreSourcesRising sources
+  pub below : All (λ v. v.0 < end) sources
+  pub are : (s : ℕ) → is_source sources s ≡ (nat_lt s end && nat_lt number (number_at numbers s))

@@ -106,11 +106,12 @@ impl OwnedDesk {
 pub(crate) fn touch_sources(kept: &mut Kept, ready: &Ready) -> Result<(), AllocError>
     requires { Accepts ready.now.old ready.now.ops ready.now.new }
     ensures versions { kept.new.versions ≡ kept.old.versions }
-    ensures before { (pins : List (Option SeatPin)) → KeepsVersions ready.now.old.last pins kept.old
-        → KeepsVersions ready.now.old.last pins kept.new }
-    ensures after { OnOk result ((pins : List (Option SeatPin)) → KeepsVersions ready.now.old.last pins kept.old
-        → KeepsVersions ready.now.new.last pins kept.new) }
+    ensures before { (pins : List (Option SeatPin)) → KeepsVersions ready.now.old pins kept.old
+        → KeepsVersions ready.now.old pins kept.new }
+    ensures after { OnOk result ((pins : List (Option SeatPin)) → KeepsVersions ready.now.old pins kept.old
+        → KeepsVersions ready.now.new pins kept.new) }
 {
+    // (with it the version tells what is true of each version)
     let number = ready.version().number();
     kept.touch(ready.sources(), number as u32)
 }

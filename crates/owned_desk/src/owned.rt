@@ -112,6 +112,8 @@ impl OwnedDesk {
     fn opened(desk: Desk, opening: u64) -> OwnedDesk
         ensures { result ≡ opened_owned desk opening }
     {
+        // What is true of the desk, as that a number stands for one block of its last version.
+        desk.facts();
         let kept = Kept::none(desk.allocator());
         OwnedDesk {
             desk,
@@ -302,6 +304,7 @@ impl OwnedDesk {
             return Err(AllocError);
         };
         self.desk.reopen()?;
+        self.desk.facts();
         let kept = Kept::none(self.desk.allocator());
         let OwnedDesk {
             board,
@@ -336,6 +339,7 @@ impl OwnedDesk {
             return Err(AllocError);
         };
         self.desk.reopen_with(zero);
+        self.desk.facts();
         let kept = Kept::none(self.desk.allocator());
         let OwnedDesk {
             board,
@@ -373,6 +377,7 @@ impl OwnedDesk {
         ensures { self.new
             ≡ with_hold self.old seat (Some (held_pin (length self.old.desk.last.batches))) count (Some self.old.desk.last) }
     {
+        self.desk.facts();
         let number = last.number();
         self.board.pin(seat);
         self.board.settle(seat, number);

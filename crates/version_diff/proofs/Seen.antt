@@ -1,12 +1,13 @@
 -- The edges of blocks that a filter lets through, and which of them is one of a kind to a target.
 use Rattle.std.proofs.Common.{◌≡◌, ℕ, ◌+◌, ◌<◌, ◌==◌, List, [], ◌∷◌, ◌++◌, map, length, get_or, drop, cond, Bool, true, false}
 use Rattle.std.proofs.Common.{Option, None, Some, refl, sym, ap, ◌∙◌, arith, add-one}
-use Rattle.std.proofs.{Math.Seq.drop-cons, lemmas.{Grind.common_steps}}
-use Rattle.std.specs.{Prelude.{filter}, declared.{sync.Arc.Arc, alloc.Global.Global}, Option.option_or}
+use Rattle.std.proofs.Common.{inl, inr}
+use Rattle.std.proofs.{Math.Seq.drop-cons, lemmas.{Grind.common_steps, Bool.{eq-eqb, Decides.eqb_tells}}}
+use Rattle.std.specs.{Prelude.{filter, if◌then◌else◌}, declared.{sync.Arc.Arc, alloc.Global.Global}, Option.{option_or, is_some}}
 use Rattle.graph_types.specs.{Graph.{Key, Stamp}, View.in_view, declared.ids.Filter.Filter}
-use Rattle.edge_block.specs.{Slots.{BlockView, Slot, entry_in, edges_in, stamp_at}, Lending.{LentEdge, lent_of}, declared.blocks.Block.Block}
+use Rattle.edge_block.specs.{Slots.{AreDistinct, BlockView, IsBlock, Slot, entry_in, edges_in, stamp_at, stamp_in_slot}, Lending.{LentEdge, lent_of}, declared.blocks.Block.Block}
 use Rattle.graph_version.specs.Sharing.{block_value, block_values}
-use Rattle.version_diff.specs.Differences.{seen_in_block, seen_in, is_to, edge_to}
+use Rattle.version_diff.specs.Differences.{seen_in_block, seen_in, is_to, edge_to, sees}
 
 -- an entry that isn't one of the kind to the target changes nothing, be it let through or not
 passed : (seen : Bool) (x : Key × Stamp) (rest : List (Key × Stamp)) (kind target : ℕ) → is_to kind target (lent_of x) ≡ false
@@ -51,6 +52,62 @@ absent_slots f b kind target (Some e ∷ slots) none =
 pub absent : (f : Filter) (b : BlockView) (kind target : ℕ) → stamp_at b.slots target ≡ None
     → edge_to (seen_in_block f b) kind target ≡ None
 absent f b kind target none = absent_slots f b kind target b.slots none
+
+-- one that has the edge shows it, where the filter lets it through
+
+first_seen : (seen : Bool) (x : Key × Stamp) (rest : List (Key × Stamp)) (kind target : ℕ) → is_to kind target (lent_of x) ≡ true
+    → edge_to (map lent_of rest) kind target ≡ None
+    → edge_to (map lent_of (cond seen (x ∷ rest) rest)) kind target ≡ (if seen then Some (lent_of x) else None)
+first_seen true x rest kind target is none = rw is refl
+first_seen false x rest kind target is none = none
+
+-- an edge of a block's kind
+abbrev pub edge_from : BlockView → ℕ → Stamp → LentEdge
+edge_from b target stamp = record { kind = b.kind; target = target; stamp = stamp }
+
+shown_here : (f : Filter) (b : BlockView) (e : Slot) (target : ℕ) (slots : List (Option Slot)) → target ≡ e.target
+    → stamp_at slots target ≡ None
+    → edge_to (seen_slots f b (Some e ∷ slots)) b.kind target
+    ≡ (if sees f (edge_from b target e.stamp) then Some (edge_from b target e.stamp) else None)
+shown_here f b e target slots same none =
+    let kind : (b.kind == b.kind) ≡ true = eq-eqb b.kind b.kind refl in
+    let to : (e.target == target) ≡ true = eq-eqb e.target target (sym same) in
+    let is : is_to b.kind target (lent_of (entry_in b e)) ≡ true = rw (kind, to) refl in
+    first_seen (in_view f (entry_in b e)) (entry_in b e) (filter (in_view f) (map (entry_in b) (edges_in slots))) b.kind target is
+    (absent_slots f b b.kind target slots none)
+    ∙ ap (λ t. if in_view f (entry_in b e) then Some (edge_from b t e.stamp) else None) (sym same)
+
+not_here : (b : BlockView) (e : Slot) (target : ℕ) → (target == e.target) ≡ false → is_to b.kind target (lent_of (entry_in b e)) ≡ false
+not_here b e target other = grind (arith, common_steps)
+
+same_stamp : (e s : Stamp) → Some e ≡ Some s → e ≡ s
+same_stamp e s same = cc
+
+shown_slots : (f : Filter) (b : BlockView) (target : ℕ) (stamp : Stamp) (slots : List (Option Slot)) → AreDistinct slots
+    → stamp_at slots target ≡ Some stamp
+    → edge_to (seen_slots f b slots) b.kind target
+    ≡ (if sees f (edge_from b target stamp) then Some (edge_from b target stamp) else None)
+shown_slots f b target stamp [] distinct at = absurd (cc)
+shown_slots f b target stamp (None ∷ slots) distinct at = shown_slots f b target stamp slots distinct.1 at
+shown_slots f b target stamp (Some e ∷ slots) distinct at = elim (eqb_tells target e.target) [
+  | inl same ↦
+      (let here : Some e.stamp ≡ Some stamp = rw same.0 at at in
+      let some : is_some (stamp_in_slot (Some e) target) ≡ true = rw same.0 refl in
+      shown_here f b e target slots same.1 (distinct.0 target some)
+      ∙ ap (λ st. if sees f (edge_from b target st) then Some (edge_from b target st) else None) (same_stamp e.stamp stamp here))
+  | inr differs ↦
+      (let there : stamp_at slots target ≡ Some stamp = rw differs.0 at at in
+      passed (in_view f (entry_in b e)) (entry_in b e) (filter (in_view f) (map (entry_in b) (edges_in slots))) b.kind target
+      (not_here b e target differs.0)
+      ∙ shown_slots f b target stamp slots distinct.1 there)
+]
+
+pub shown_to : (f : Filter) (b : BlockView) (target : ℕ) (edge : LentEdge) → IsBlock b → edge.kind ≡ b.kind → edge.target ≡ target
+    → stamp_at b.slots target ≡ Some edge.stamp
+    → edge_to (seen_in_block f b) b.kind target ≡ (if sees f edge then Some edge else None)
+shown_to f b target edge is kind to at =
+    let same : edge_from b target edge.stamp ≡ edge = λ i. record { kind = sym kind i; target = sym to i; stamp = edge.stamp } in
+    shown_slots f b target edge.stamp b.slots is.distinct at ∙ ap (λ (e : LentEdge). if sees f e then Some e else None) same
 
 -- of edges before others
 pub edge_to-append : (xs ys : List LentEdge) (kind target : ℕ)

@@ -1,8 +1,8 @@
 -- What became of the edges of a view from an earlier version to a later one.
-use Rattle.std.specs.Prelude.{◌≡◌, ◌∷◌, ℕ, zero, suc, pos, ◌+◌, ◌==◌, ◌&&◌, List, [], ◌++◌, map, find, filter_map, flat_map, length}
+use Rattle.std.specs.Prelude.{◌≡◌, ◌∷◌, ℕ, zero, suc, pos, ◌+◌, ◌==◌, ◌&&◌, nat_le, List, [], ◌++◌, map, find, filter_map, flat_map, length}
 use Rattle.std.specs.Prelude.{Bool, Option, Some, None, if◌then◌else◌}
 use Rattle.std.specs.Ordering.{int_eq}
-use Rattle.graph_types.specs.{Graph.Stamp, declared.ids.Filter.Filter}
+use Rattle.graph_types.specs.{Graph.Stamp, View.takes_kind, declared.ids.Filter.Filter}
 use Rattle.edge_block.specs.{Slots.BlockView, Lending.{LentEdge, lent_of}}
 use Rattle.graph_version.specs.{Rows.row_of, Shown.shown, Versions.{VersionView, content}}
 use Rattle.version_diff.specs.Pairs.{PairView}
@@ -17,6 +17,10 @@ seen_in f blocks = flat_map (seen_in_block f) blocks
 
 abbrev pub seen_from : Filter → VersionView → ℕ → List LentEdge
 seen_from f v source = seen_in f (row_of v.rows source)
+
+-- whether a filter lets an edge through: by its kind, and by its recent time, both ends of the window included
+abbrev pub sees : Filter → LentEdge → Bool
+sees f e = takes_kind f.kind e.kind && nat_le f.lo e.stamp.recent && nat_le e.stamp.recent f.hi
 
 -- whether an edge is one of a kind to a target, and the edge that is, if there is one
 abbrev pub is_to : ℕ → ℕ → LentEdge → Bool

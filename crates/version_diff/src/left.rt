@@ -1,11 +1,11 @@
-//! The blocks of two rows that are left once those that show the same edges are passed over.
+//! The blocks of two rows that are left once those that stand in both are passed over.
 
-ghost use Rattle.std.specs.Prelude.{◌≡◌, ◌+◌, ◌<◌, ◌++◌, ℕ, IsTrue, IfSome, IfOk, OnOk, length, take, drop};
-ghost use Rattle.edge_block.specs.Lending.{lent_edge};
+ghost use Rattle.std.specs.Prelude.{◌≡◌, ◌+◌, ◌<◌, ◌++◌, ◌∷◌, ℕ, All, IfSome, IfOk, OnOk, length, take, drop};
 ghost use Rattle.graph_version.specs.Sharing.{block_values};
-ghost use Rattle.version_diff.specs.Differences.{seen_in_block, seen_in, AreApart, difference_of};
+ghost use Rattle.version_diff.specs.Differences.{seen_in, AreApart, difference_of};
+ghost use Rattle.version_diff.specs.Pairs.{AreSameByNumber};
 
-use edge_block::{Block, EdgeRef};
+use edge_block::Block;
 use graph_types::Filter;
 use std::alloc::{AllocError, Global};
 use std::sync::Arc;
@@ -17,47 +17,22 @@ pub(crate) struct Left {
     pub(crate) later: Vec<Arc<Block>>,
 }
 
-/// Whether two edges are the same.
-fn is_same(edge: &EdgeRef<'_>, other: &EdgeRef<'_>) -> bool
-    ensures { IsTrue result → lent_edge edge.now ≡ lent_edge other.now }
-{
-    edge.kind == other.kind
-        && *edge.target == *other.target
-        && *edge.weight == *other.weight
-        && *edge.first == *other.first
-        && *edge.recent == *other.recent
-}
+/// How many of the next earlier blocks are looked at for a later one.
+const WINDOW: usize = 8;
 
-/// Whether two blocks show the same edges in the same order.
-fn show_same(block: &Block, other: &Block, view: &Filter) -> bool
-    ensures { IsTrue result → seen_in_block view.now block.now ≡ seen_in_block view.now other.now }
-{
-    let mut others = other.select(view);
-    for edge in block.select(view) {
-        let Some(found) = others.next() else {
-            return false;
-        };
-        if !is_same(&edge, &found) {
-            return false;
-        }
-    }
-    others.next().is_none()
-}
-
-/// The place of the block that has another one's number, if it shows the same edges.
-fn place_of(blocks: &[Arc<Block>], wanted: &Block, view: &Filter) -> Option<usize>
+/// The place of a block, by its number, if it is one of the first so many.
+fn place_of(blocks: &[Arc<Block>], wanted: &Block, most: usize) -> Option<usize>
+    requires alike { All (λ b. b.number ≡ wanted.now.number → b ≡ wanted.now) (block_values blocks.now) }
     ensures within { IfSome result (λ place. place < length blocks.now) }
-    ensures there { IfSome result (λ place. seen_in view.now (block_values blocks.now)
-        ≡ seen_in view.now (block_values (take place blocks.now))
-        ++ (seen_in_block view.now wanted.now ++ seen_in view.now (block_values (drop (place + 1) blocks.now)))) }
+    ensures there { IfSome result (λ place. block_values blocks.now
+        ≡ block_values (take place blocks.now) ++ (wanted.now ∷ block_values (drop (place + 1) blocks.now))) }
 {
     for (place, block) in blocks.iter().enumerate() {
+        if place == most {
+            return None;
+        }
         if block.number() == wanted.number() {
-            return if show_same(block, wanted, view) {
-                Some(place)
-            } else {
-                None
-            };
+            return Some(place);
         }
     }
     None
@@ -76,7 +51,8 @@ fn push_blocks(blocks: &mut Vec<Arc<Block>>, more: &[Arc<Block>]) -> Result<(), 
 /// The blocks that are left of two rows.
 ///
 /// A row keeps the order of its blocks but for those that were dropped, and those that a batch changed are others, with numbers of
-/// their own. So each later block is looked for among the earlier ones behind the last that was found.
+/// their own. So each later block is looked for among the next few of the earlier ones, behind the last that was found, and among
+/// twice as many for each one before it in a row that wasn't found.
 pub(crate) fn left_of(
     alloc: Global,
     earlier: &[Arc<Block>],
@@ -85,6 +61,7 @@ pub(crate) fn left_of(
 ) -> Result<Left, AllocError>
     requires earlier { AreApart (seen_in view.now (block_values earlier.now)) }
     requires later { AreApart (seen_in view.now (block_values later.now)) }
+    requires alike { AreSameByNumber (block_values earlier.now) (block_values later.now) }
     ensures { IfOk result (λ left. (source : ℕ)
         → difference_of source (seen_in view.now (block_values left.earlier.items)) (seen_in view.now (block_values left.later.items))
         ≡ difference_of source (seen_in view.now (block_values earlier.now)) (seen_in view.now (block_values later.now))) }
@@ -92,15 +69,20 @@ pub(crate) fn left_of(
     let mut gone = Vec::new(alloc);
     let mut came = Vec::new(alloc);
     let mut rest = earlier;
+    let mut window = WINDOW;
     for block in later {
-        match place_of(rest, block, view) {
+        match place_of(rest, block, window) {
             Some(place) => {
                 let (before, _) = rest.split_at(place);
                 let (_, behind) = rest.split_at(place + 1);
                 push_blocks(&mut gone, before)?;
                 rest = behind;
+                window = WINDOW;
             }
-            None => came.push(Arc::try_clone(block)?)?,
+            None => {
+                came.push(Arc::try_clone(block)?)?;
+                window = window.saturating_mul(2);
+            }
         }
     }
     push_blocks(&mut gone, rest)?;

@@ -1,10 +1,10 @@
 //! Two versions of one graph.
 
-ghost use Rattle.std.specs.Prelude.{◌≡◌, length};
+ghost use Rattle.std.specs.Prelude.{◌≡◌, ℕ, length};
 ghost use Rattle.std.specs.Arc.{arc_value};
 ghost use Rattle.graph_version.specs.declared.versions.Version.{Version};
-ghost use Rattle.graph_version.specs.{Differences.DifferAt, Versions.{IsVersion, content}};
-ghost use Rattle.version_diff.specs.Pairs.{IsNamedAfter, AreSourcesRising, ArePair, version_pair};
+ghost use Rattle.graph_version.specs.{Differences.DifferAt, Rows.row_of, Versions.{IsVersion, content}};
+ghost use Rattle.version_diff.specs.Pairs.{AreSameByNumber, IsNamedAfter, AreSourcesRising, ArePair, version_pair};
 
 use graph_types::VertexId;
 use graph_version::Version;
@@ -14,7 +14,7 @@ use std::sync::Arc;
 /// An earlier and a later version of one graph, and the sources at which their rows may differ: at every other source the two rows
 /// are the same, so nothing became of the edges there.
 ///
-/// A number stands for the same vertex, and the same kind, in both.
+/// A number stands for the same vertex, and the same kind, in both, and in the rows of a source for the same block.
 pub struct VersionPair {
     earlier: Arc<Version>,
     later: Arc<Version>,
@@ -53,6 +53,8 @@ impl VersionPair {
     /// These two versions, which have the same rows but at these sources.
     pub fn of(earlier: Arc<Version>, later: Arc<Version>, sources: Vec<VertexId>) -> VersionPair
         requires named { IsNamedAfter (arc_value {X = Version} earlier) (arc_value {X = Version} later) }
+        requires alike { (source : ℕ)
+            → AreSameByNumber (row_of (arc_value {X = Version} earlier).rows source) (row_of (arc_value {X = Version} later).rows source) }
         requires differ { DifferAt sources.items (arc_value {X = Version} earlier).rows (arc_value {X = Version} later).rows }
         requires rising { AreSourcesRising sources.items }
         ensures { result ≡ version_pair (arc_value {X = Version} earlier) (arc_value {X = Version} later) }
@@ -76,6 +78,7 @@ impl VersionPair {
     pub fn later(&self) -> &Version
         ensures version { result.now ≡ self.now.later }
         ensures named { IsNamedAfter self.now.earlier self.now.later }
+        ensures alike { (source : ℕ) → AreSameByNumber (row_of self.now.earlier.rows source) (row_of self.now.later.rows source) }
     {
         &self.later
     }

@@ -4,7 +4,8 @@ ghost use Rattle.std.specs.Prelude.{◌≡◌, ◌++◌, IsTrue, OnOk};
 ghost use Rattle.std.specs.Option.{option_map};
 ghost use Rattle.edge_block.specs.Lending.{lent_edge};
 ghost use Rattle.graph_version.specs.Sharing.{block_values};
-ghost use Rattle.version_diff.specs.Differences.{seen_in_block, seen_in, edge_to, bears_same, borne_by, gone_edge, gone_among, not_same_among, difference_of, if_not_same, AreApart};
+ghost use Rattle.version_diff.specs.Differences.{seen_in_block, seen_in, edge_to, bears_same, borne_by, gone_edge, gone_among, not_same_among, difference_of, if_not_same, sees, AreApart};
+ghost use Rattle.version_diff.specs.Pairs.{AreSameByNumber};
 
 use crate::left::left_of;
 use edge_block::{Block, EdgeRef};
@@ -105,6 +106,17 @@ fn bears_same(edge: &EdgeRef<'_>, other: &EdgeRef<'_>) -> bool
     *edge.weight == *other.weight && *edge.first == *other.first && *edge.recent == *other.recent
 }
 
+/// Whether a filter lets an edge through.
+fn sees(view: &Filter, edge: &EdgeRef<'_>) -> bool
+    ensures { result ≡ sees view.now (lent_edge edge.now) }
+{
+    let of_kind = match view.kind {
+        None => true,
+        Some(kind) => kind == edge.kind,
+    };
+    of_kind && view.lo <= *edge.recent && *edge.recent <= view.hi
+}
+
 /// The edge of a kind to a target, of those of a block that a filter lets through.
 #[tactic(auto, using(crate::proofs::Seen::other_kind, crate::proofs::Seen::absent))]
 fn edge_of<'a>(block: &'a Block, view: &Filter, kind: KindId, target: u32) -> Option<EdgeRef<'a>>
@@ -113,15 +125,8 @@ fn edge_of<'a>(block: &'a Block, view: &Filter, kind: KindId, target: u32) -> Op
     if block.kind() != kind {
         return None;
     }
-    if block.find(target).is_none() {
-        return None;
-    }
-    for edge in block.select(view) {
-        if edge.kind == kind && *edge.target == target {
-            return Some(edge);
-        }
-    }
-    None
+    let edge = block.find(target)?;
+    if sees(view, &edge) { Some(edge) } else { None }
 }
 
 /// The same of blocks.
@@ -225,6 +230,7 @@ pub(crate) fn push_difference(
 ) -> Result<(), AllocError>
     requires earlier { AreApart (seen_in view.now (block_values earlier.now)) }
     requires later { AreApart (seen_in view.now (block_values later.now)) }
+    requires alike { AreSameByNumber (block_values earlier.now) (block_values later.now) }
     ensures { OnOk result (differences.new.items ≡ differences.old.items
         ++ difference_of source (seen_in view.now (block_values earlier.now)) (seen_in view.now (block_values later.now))) }
 {

@@ -3,10 +3,21 @@ use Rattle.std.proofs.lemmas.List.{map-append, nil_from_length, length-drop}
 use Rattle.std.specs.declared.{sync.Arc.Arc, alloc.Global.Global}
 use Rattle.edge_block.specs.{Lending.LentEdge, declared.blocks.Block.Block}
 use Rattle.graph_version.specs.Sharing.{block_value, block_values}
-use Rattle.version_diff.specs.Differences.{seen_in_block, seen_in, AreApart, difference_of}
-use Rattle.version_diff.proofs.{Seen.next_seen, LeftOut.{seen_more, seen_one_more, passed_earlier, passed_later, passed_same, later_is}}
+use Rattle.version_diff.specs.{Differences.{seen_in_block, seen_in, AreApart, difference_of}, Pairs.AreSameByNumber}
+use Rattle.version_diff.proofs.{Seen.next_seen, LeftOut.{alike_behind, alike_to, seen_more, seen_one_more, passed_earlier, passed_later, passed_same, later_is}}
 use Rattle.version_diff.proofs.left.left_of.Goals as goal
 use Rattle.version_diff.proofs.left.left_of.Goals.{in-Some+in_ok-push_blocks-in-Some, in-None+in_ok-try_clone-in-None+in_ok-push-in-None}
+
+pub place_of-requires : goal.place_of-requires
+place_of-requires c =
+    let laters : List (Arc Block Global) = c.args.later.now in
+    let block : Arc Block Global = c.block-item.result in
+    let same : block_value (get_or laters c.loop-block.block-index block) ≡ c.deref.result.now =
+    ap block_value (sym c.block-item.is) ∙ sym c.deref.ensures in
+    record {
+      alike = alike_to (block_values c.loop-block.rest.now) laters c.loop-block.block-index block c.deref.result.now
+          c.loop-block-test.true same c.loop-block.invariant.alike;
+    }
 
 pub loop-block-preserved : goal.loop-block-preserved
 loop-block-preserved c =
@@ -40,8 +51,9 @@ loop-block-preserved c =
           ∙ seen_more f (block_values c.loop-block.gone.items) (block_values front) in
           let rest_is : c.match-place_of.rest.now ≡ drop (w.in-Some.place + 1) c.loop-block.rest.now =
           ap (λ (r : Bor (List (Arc Block Global))). r.now) w.rest-is ∙ w.split_at-in-Some.ensures.back in
+          let behind : List (Arc Block Global) = drop (w.in-Some.place + 1) c.loop-block.rest.now in
           let coming_is : coming ≡ before ++ (both ++ rest) =
-          w.in-Some.ensures.there
+          ap (seen_in f) w.in-Some.ensures.there ∙ seen_more f (block_values front) (c.deref.result.now ∷ block_values behind)
           ∙ ap (λ (bs : List (Arc Block Global)). before ++ (both ++ seen_in f (block_values bs))) (sym rest_is) in
           let came_is : came ≡ new = ap (λ (v : Vec (Arc Block Global) Global). seen_in f (block_values v.items)) w.came-is in
           let later : AreApart (came ++ later_coming) =
@@ -53,6 +65,8 @@ loop-block-preserved c =
                 passed_same old before both rest coming now came later_rest later_coming coming_is next is so_far.earlier later source
                 ∙ ap (λ (es : List LentEdge). difference_of source (old ++ coming) (es ++ later_coming)) came_is
                 ∙ so_far.same source;
+            alike = subst (λ (bs : List (Arc Block Global)). AreSameByNumber (block_values bs) (block_values laters)) (sym rest_is)
+                (alike_behind c.loop-block.rest.now (block_values laters) (w.in-Some.place + 1) so_far.alike);
           }
       | in-None+in_ok-try_clone-in-None+in_ok-push-in-None w ↦
           let copy : Arc Block Global = w.in_ok-try_clone-in-None.field-0 in
@@ -75,6 +89,8 @@ loop-block-preserved c =
             same = λ source.
                 ap (λ (es : List LentEdge). difference_of source es (came ++ later_rest)) stayed
                 ∙ ap (difference_of source (old ++ coming)) (sym moved) ∙ so_far.same source;
+            alike = subst (λ (r : Bor (List (Arc Block Global))). AreSameByNumber (block_values r.now) (block_values laters)) (sym w.rest-is)
+                so_far.alike;
           }
     ]
 

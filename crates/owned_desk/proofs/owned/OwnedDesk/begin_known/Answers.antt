@@ -10,8 +10,8 @@ of-requires c =
     let kept = c.touch_sources.new.kept in
     let o : OwnedView = owned_view s.desk s.board s.counts s.opening kept in
     let b = c.in-Ok.ensures.begun in
-    let before : KeepsVersions c.in-Ok.ready.old.last s.board.pins s.kept =
-    subst (λ (d : DeskView). KeepsVersions d.last s.board.pins s.kept) (sym b.0) c.self.invariant.kept in
+    let before : KeepsVersions c.in-Ok.ready.old s.board.pins s.kept =
+    subst (λ (d : DeskView). KeepsVersions d s.board.pins s.kept) (sym b.0) c.self.invariant.kept in
     record {
       ready = ready_owned o c.in-Ok.ready.old c.in-Ok.ready.new c.in-Ok.ready.ops _ b.0 b.1
           (owned_with (owned_view s.desk s.board s.counts s.opening s.kept) kept.versions c.self.invariant.owned)
@@ -25,11 +25,11 @@ with-desk-requires c =
     let s = c.self.inside in
     let kept = c.touch_sources.new.kept in
     let b = c.in-Ok.ensures.begun in
-    let before : KeepsVersions c.in-Ok.ready.old.last s.board.pins s.kept =
-    subst (λ (d : DeskView). KeepsVersions d.last s.board.pins s.kept) (sym b.0) c.self.invariant.kept in
+    let before : KeepsVersions c.in-Ok.ready.old s.board.pins s.kept =
+    subst (λ (d : DeskView). KeepsVersions d s.board.pins s.kept) (sym b.0) c.self.invariant.kept in
     record {
       owned = subst (λ (d : DeskView). IsOwned (owned_view d s.board s.counts s.opening kept)) (sym (c.cancel.ensures ∙ b.0))
           (owned_with (owned_view s.desk s.board s.counts s.opening s.kept) kept.versions c.self.invariant.owned);
-      kept = subst (λ (d : DeskView). KeepsVersions d.last s.board.pins kept) (sym c.cancel.ensures)
+      kept = subst (λ (d : DeskView). KeepsVersions d s.board.pins kept) (sym c.cancel.ensures)
           (c.touch_sources.ensures.before s.board.pins before);
     }

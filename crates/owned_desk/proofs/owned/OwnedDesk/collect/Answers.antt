@@ -1,9 +1,26 @@
-use Rattle.std.proofs.Common.{◌≡◌, length, subst, rules}
-use Rattle.block_reclamation.specs.declared.copies.PinCopy.{PinCopy}
+use Rattle.std.proofs.Common.{◌≡◌, ◌≤◌, List, length, sym, ap, subst, rules}
+use Rattle.std.specs.Prelude.{Option}
+use Rattle.block_reclamation.specs.{Board.BoardState, declared.copies.{Pin.Pin, PinCopy.PinCopy}}
 use Rattle.store_steps.specs.{Boards.raised_board, Desks.IsCollected, Steps.{SimulatesAt, recycling}}
-use Rattle.owned_desk.specs.Owned.{OwnedView, IsOwned, copied}
-use Rattle.owned_desk.proofs.{OwnedHeld.{held_are_snapshots, leaves_held_blocks}, OwnedMoves.collect_follows}
+use Rattle.owned_desk.specs.{Kept.KeepsVersions, Owned.{OwnedView, IsOwned, copied, owned_view}}
+use Rattle.owned_desk.proofs.{KeptVersions.collected_versions, OwnedLaws.{collected_owned, pins_settled}, OwnedHeld.{held_are_snapshots, leaves_held_blocks}, OwnedMoves.collect_follows}
 use Rattle.owned_desk.proofs.owned.OwnedDesk.collect.Goals as goal
+
+pub invariant_of-self : goal.invariant_of-self
+invariant_of-self c =
+    let s = c.self.inside in
+    let old : OwnedView = owned_view s.desk s.board s.counts s.opening s.kept in
+    let is : IsOwned old = c.self.invariant.owned in
+    let copy_is : c.raise-copy.result ≡ copied s.desk s.board = search rules in
+    let collected : IsCollected s.desk (copied s.desk s.board) c.collect.new.self =
+    subst (λ (copy : PinCopy). IsCollected s.desk copy c.collect.new.self) copy_is c.collect.ensures.collected in
+    let pins : c.raise-copy.new.self.pins ≡ s.board.pins = ap (λ (b : BoardState). b.pins) c.raise-copy.ensures.raised in
+    let low : c.raise-copy.new.self.floor ≤ length s.desk.last.batches = search rules in
+    record {
+      owned = collected_owned old c.collect.new.self c.raise-copy.new.self is collected.last pins low;
+      kept = subst (λ (ps : List (Option Pin)). KeepsVersions c.collect.new.self ps s.kept) (sym pins)
+          (collected_versions s.desk c.collect.new.self s.board.pins s.kept (pins_settled old is) c.self.invariant.kept collected);
+    }
 
 pub returns-clause-steps : goal.returns-clause-steps
 returns-clause-steps c =

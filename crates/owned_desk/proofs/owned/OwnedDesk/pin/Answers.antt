@@ -3,8 +3,8 @@ use Rattle.std.specs.{Arc.arc_value, Prelude.{option_map}, declared.option.Optio
 use Rattle.block_reclamation.specs.{Board.{BoardState, with_pin}, Copies.{settled}}
 use Rattle.graph_version.specs.{declared.versions.Version.Version, Versions.VersionView}
 use Rattle.desk.proofs.TwicePinned.{pin_twice}
-use Rattle.owned_desk.specs.{Kept.{IsFormerVersion, KeepsVersions, KeptView}, Owned.{OwnedView, IsOwned, IsSeatFor, held_pin, owned_view, with_hold}}
-use Rattle.owned_desk.proofs.{KeptVersions.{changed_kept, last_earlier}, OwnedLaws.{pin_held, pinned_owned}}
+use Rattle.owned_desk.specs.{Kept.{IsVersionOf, KeepsVersions, KeptView}, Owned.{OwnedView, IsOwned, IsSeatFor, held_pin, owned_view, with_hold}}
+use Rattle.owned_desk.proofs.{KeptVersions.{changed_kept, last_is_version}, OwnedLaws.{pin_held, pinned_owned}}
 use Rattle.owned_desk.proofs.owned.OwnedDesk.pin.Goals.{After-put}
 use Rattle.owned_desk.proofs.owned.OwnedDesk.pin.Goals as goal
 
@@ -49,16 +49,19 @@ new c =
       versions = ap (λ (k : KeptView). k.versions) c.put.ensures i;
     }
 
-kept : (c : After-put) → KeepsVersions c.self.inside.desk.last c.settle.new.self.pins c.put.new.self
+kept : (c : After-put) → KeepsVersions c.self.inside.desk c.settle.new.self.pins c.put.new.self
 kept c =
     let o = c.self.inside in
-    let here : IsFormerVersion o.kept.touched (last c) o.desk.last =
-    subst (λ (v : VersionView). IsFormerVersion o.kept.touched v o.desk.last) (sym (last_is c)) (last_earlier o.kept.touched o.desk.last) in
-    subst (λ (k : KeptView). KeepsVersions o.desk.last c.settle.new.self.pins k) (sym c.put.ensures)
-    (subst (λ (b : BoardState). KeepsVersions o.desk.last b.pins
-    (record o.kept { versions = set o.kept.versions c.args.seat (Some (last c)) })) (sym (board c))
-    (changed_kept o.desk.last o.board.pins o.kept c.args.seat c.self.invariant.kept c.self.invariant.owned.pins c.requires.seat.0
-    (Some (held_pin c.number-number.result)) (Some (last c)) (sym (number c), here)))
+    let block_of = c.self.invariant.kept.block_of in
+    let number_is : length o.desk.last.batches ≡ c.number-number.result = sym (number_low c) in
+    let here : IsVersionOf o.kept.touched block_of o.desk (held_pin c.number-number.result) (last c) =
+    subst (IsVersionOf o.kept.touched block_of o.desk (held_pin c.number-number.result)) (sym (last_is c))
+    (last_is_version o.kept.touched block_of o.desk (held_pin c.number-number.result) number_is c.self.invariant.kept.last
+    c.facts.ensures.replays) in
+    subst (λ (k : KeptView). KeepsVersions o.desk c.settle.new.self.pins k) (sym c.put.ensures)
+    (subst (λ (b : BoardState). KeepsVersions o.desk b.pins (record o.kept { versions = set o.kept.versions c.args.seat (Some (last c)) }))
+    (sym (board c)) (changed_kept o.desk o.board.pins o.kept c.args.seat c.self.invariant.kept c.self.invariant.owned.pins
+    c.requires.seat.0 (Some (held_pin c.number-number.result)) (Some (last c)) here))
 
 pub invariant_of-self : goal.invariant_of-self
 invariant_of-self c =

@@ -7,7 +7,7 @@ use Rattle.owned_desk.proofs.owned.OwnedDesk.rebase.Goals as goal
 
 pub invariant_of-self-2 : goal.invariant_of-self-2
 invariant_of-self-2 c =
-    opens_owned c.reopen.new.self c.in-Some.next c.new.result c.none-kept.result c.new.ensures c.none-kept.ensures
+    opens_owned c.reopen.new.self c.in-Some.next c.new.result c.none-kept.result c.facts.ensures.replays.version c.new.ensures c.none-kept.ensures
 
 pub returns-clause-starts : goal.returns-clause-starts
 returns-clause-starts c =

@@ -7,7 +7,7 @@ use Rattle.owned_desk.proofs.owned.OwnedDesk.reopen_with.Goals as goal
 
 pub invariant_of-self : goal.invariant_of-self
 invariant_of-self c =
-    opens_owned c.reopen_with.new.self c.in-Some.next c.new.result c.none-kept.result c.new.ensures c.none-kept.ensures
+    opens_owned c.reopen_with.new.self c.in-Some.next c.new.result c.none-kept.result c.facts.ensures.replays.version c.new.ensures c.none-kept.ensures
 
 pub returns-clause-starts : goal.returns-clause-starts
 returns-clause-starts c =

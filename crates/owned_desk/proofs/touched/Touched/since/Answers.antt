@@ -1,23 +1,44 @@
-use Rattle.std.proofs.Common.{◌≡◌, ◌<◌, ◌≤◌, ◌+◌, List, ℕ, length, get_or, sym, ap, subst, ◌∙◌, arith}
-use Rattle.owned_desk.proofs.SinceNumbers.{AreSinceBelow, more_since, same_since}
+use Rattle.std.proofs.Common.{◌≡◌, ◌≤◌, ◌+◌, ◌*◌, ◌/◌, List, ℕ, length, sym, ap, subst, ◌∙◌, arith}
+use Rattle.std.proofs.lemmas.List.{get_or_past}
+use Rattle.owned_desk.specs.Touched.{AreTouchedBelow, number_at}
+use Rattle.owned_desk.proofs.SinceNumbers.{all_since, none_since}
 use Rattle.owned_desk.proofs.touched.Touched.since.Goals as goal
-use Rattle.owned_desk.proofs.touched.Touched.since.Goals.{then-from-number+in_ok-push, else-from-number}
+use Rattle.owned_desk.proofs.touched.Touched.since.Goals.{then-from-number+in_ok-push_since, else-from-number}
 
-pub loop-source-preserved : goal.loop-source-preserved
-loop-source-preserved c =
+pub loop-group-preserved : goal.loop-group-preserved
+loop-group-preserved c =
     let numbers : List ℕ = c.args.self.now in
-    let i : ℕ = c.loop-source.source in
-    let same : c.deref-last-items.result.now ≡ numbers = c.deref-last-items.ensures.value ∙ c.self.view_is in
-    let low : i < length numbers = subst (λ (ns : List ℕ). i < length ns) same c.loop-source-test.true in
-    let at : c.from.result ≡ get_or numbers i 0 = c.from.ensures ∙ ap (λ (ns : List ℕ). get_or ns i 0) same in
+    let bounds : List ℕ = c.self.inside.bounds.items in
+    let number : ℕ = c.args.number in
+    let g : ℕ = c.loop-group.group in
+    let next : g * 64 + 64 ≡ (g + 1) * 64 = omega arith in
+    let same : c.deref-bound-items.result.now ≡ bounds = c.deref-bound-items.ensures.value in
+    let at : c.from.result ≡ number_at bounds g = c.from.ensures ∙ ap (λ (ns : List ℕ). number_at ns g) same in
     elim c.if-from-number.branch [
-      | then-from-number+in_ok-push w ↦
-          (let items = ap (λ v. v.items) w.sources-is ∙ w.in_ok-push.ensures.items in
-          let more : c.args.number < get_or numbers i 0 = (let m = w.if-from-number.true in omega (arith, m, at)) in
-          subst (AreSinceBelow c.args.number (i + 1) numbers) (sym items)
-          (more_since c.args.number i numbers c.loop-source.sources.items low more c.loop-source.invariant))
+      | then-from-number+in_ok-push_since w ↦
+          subst (λ v. AreTouchedBelow ((g + 1) * 64) number numbers v.items) (sym w.sources-is)
+          (subst (λ n. AreTouchedBelow n number numbers w.push_since.new.sources.items) next
+          (subst (λ (ns : List ℕ). AreTouchedBelow (g * 64 + 64) number ns w.push_since.new.sources.items)
+          (w.as_slice.ensures.value ∙ c.self.view_is) w.in_ok-push_since.ensures))
       | else-from-number w ↦
-          (let less : get_or numbers i 0 ≤ c.args.number = (let m = w.if-from-number.false in omega (arith, m, at)) in
-          subst (λ v. AreSinceBelow c.args.number (i + 1) numbers v.items) (sym w.sources-is)
-          (same_since c.args.number i numbers c.loop-source.sources.items low less c.loop-source.invariant))
+          (let less : number_at bounds g ≤ number = (let m = w.if-from-number.false in omega (arith, m, at)) in
+          subst (λ v. AreTouchedBelow ((g + 1) * 64) number numbers v.items) (sym w.sources-is)
+          (none_since (g * 64) ((g + 1) * 64) number numbers c.loop-group.sources.items (omega arith) (λ s from to.
+          let here : s / 64 ≡ g = omega (arith, from, to) in
+          let bound : number_at numbers s ≤ number_at bounds (s / 64) =
+          subst (λ (ns : List ℕ). number_at ns s ≤ number_at bounds (s / 64)) c.self.view_is (c.self.invariant.2 s) in
+          let same : number_at bounds (s / 64) ≡ number_at bounds g = ap (number_at bounds) here in
+          omega (arith, bound, same, less)) c.loop-group.invariant))
     ]
+
+pub returns : goal.returns
+returns c =
+    let numbers : List ℕ = c.args.self.now in
+    let bounds : List ℕ = c.self.inside.bounds.items in
+    all_since (c.loop-group.group * 64) c.args.number numbers c.loop-group.sources.items
+    (λ s from.
+    let bound : number_at numbers s ≤ number_at bounds (s / 64) =
+    subst (λ (ns : List ℕ). number_at ns s ≤ number_at bounds (s / 64)) c.self.view_is (c.self.invariant.2 s) in
+    let past : length bounds ≤ s / 64 = omega (arith, from, c.loop-group-test.false) in
+    let zero = get_or_past bounds (s / 64) 0 past in
+    omega (arith, bound, zero)) c.loop-group.invariant
