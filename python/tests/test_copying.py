@@ -72,7 +72,7 @@ class Copies(Case):
         return count
 
     def test_copies(self):
-        self.assertEqual(sum(map(self.differ, range(15))), 0)
+        self.assertEqual(sum(map(self.differ, range(7))), 0)
 
     def test_faults_are_found(self):
         """A copy without first times, with names out of order, and without the loops that make names known."""

@@ -150,6 +150,7 @@ class WithoutNumpy(unittest.TestCase):
                 self.assertEqual(list(map(list, delimited.even_columns(text, ","))), columns, text)
 
 
+@unittest.skipUnless(optional("numpy"), "numpy is not there")
 class Numbers(unittest.TestCase):
     def some(self, made):
         """Digits of any length, some with a sign, and some with what is none."""

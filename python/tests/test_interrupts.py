@@ -12,10 +12,10 @@ import warnings
 import weakref
 from unittest import mock
 
-from asking import NO_ANSWERS, ROWS, calls, plain
+from asking import NEED, NO_ANSWERS, ROWS, calls, plain
 from interrupting import CALLS, EDGES, Scene, after, handler, interrupt_in_a_call, one_wrong, places
 from modelled import Model
-from support import Case, kill
+from support import Case, kill, optional
 
 import misteluk
 from misteluk import Store, ledger, store
@@ -221,7 +221,8 @@ class Questions(Case):
     def test_each_call_is_interrupted(self):
         """No call of a store or a session is left out, here or in the tests that are named."""
         of_session = {it for it in dir(self.store(*ROWS).open()) if not it.startswith("_")} - NO_ANSWERS
-        self.assertEqual(of_session - {it for it, *_ in calls("")}, set())
+        passed_over = {it for it, package in NEED.items() if not optional(package)}
+        self.assertEqual(of_session - {it for it, *_ in calls("")}, passed_over)
         of_store = {it for it in dir(Store) if not it.startswith("_")} - NO_CALLS - ELSEWHERE
         self.assertEqual(of_store, set(OF_A_STORE))
         self.assertEqual({it for it in OF_A_STORE.values() if it not in CALLS}, {"operations", "restore"})

@@ -76,7 +76,8 @@ class DelimitedRows(Rows):
             text = self._begin(text, is_end)
         if self.picked is not None:
             text = self._behind(text)
-            yield from self._even(self.picked, text) or self._parts(self.picked, text, is_end)
+            even = self._even(self.picked, text)
+            yield from self._parts(self.picked, text, is_end) if even is None else (even,)
 
     def _begin(self, text: str, is_end: bool) -> str:
         """Takes the header, where there is one, and gives the text behind it; keeps all where it isn't whole yet."""
@@ -95,19 +96,20 @@ class DelimitedRows(Rows):
         self.picked.is_first = self.passed <= self.line
         return lines.read()
 
-    def _even(self, picked: "Picked", text: str) -> List[Block]:
-        """The block of lines that have as many fields each, and plain ones within quotes; none of others."""
+    def _even(self, picked: "Picked", text: str) -> Optional[Block]:
+        """The block of lines that have as many fields each, and plain ones within quotes; `None` of others."""
         even = even_columns(text, self.sign) if text else ()
         if len(even) < picked.least:
-            return []
+            return None
         first, self.line = self.line + 1, self.line + len(even[0])
-        return [picked.of_lines(range(first, self.line + 1), even)]
+        return picked.of_lines(range(first, self.line + 1), even)
 
     def _parts(self, picked: "Picked", text: str, is_end: bool) -> Iterator[Block]:
         """The rows of lines of which some aren't even, a few at a time."""
         for part in parts_of(io.StringIO(text, newline=""), feeds.ROWS_AT_ONCE):
             text, self.kept = self.kept + "".join(part), ""
-            yield from self._even(picked, text) or self._uneven(picked, text, False)
+            even = self._even(picked, text)
+            yield from self._uneven(picked, text, False) if even is None else (even,)
         if is_end and self.kept:
             yield from self._uneven(picked, self.kept, True)
 
