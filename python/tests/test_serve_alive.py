@@ -1,6 +1,9 @@
 """Versions that a server holds for a client in Python: one that is kept while the client is silent, and one that it forgets."""
 import asyncio
 import gc
+import os
+import subprocess
+import sys
 import threading
 import time
 import unittest
@@ -8,7 +11,7 @@ import warnings
 from unittest import mock
 
 from serving import ServeCase
-from support import as_soon_as
+from support import HERE, as_soon_as
 
 from misteluk import AsyncSession, SessionClosed, connect
 from misteluk.serve import alive
@@ -87,6 +90,15 @@ class Alive(ServeCase):
             self.server.board.let_all_go()
             as_soon_as(lambda: not self.threads())
             self.assertRaises(SessionClosed, session.cores)
+
+    def test_sessions_that_are_forgotten_at_the_end(self):
+        """Of a process: it ends well."""
+        code = ("import os, queue, types; from misteluk.serve import alive\n"
+                "talk = types.SimpleNamespace(ask=lambda *_: None, close=lambda: None)\n"
+                "for _ in range(100): alive._forgotten(queue.SimpleQueue(), talk, '', os.getpid())")
+        env = {**os.environ, "PYTHONPATH": str(HERE.parent)}
+        ends = [subprocess.run([sys.executable, "-c", code], env=env, timeout=60).returncode for _ in range(4)]
+        self.assertEqual(ends, [0] * 4)
 
     def test_a_session_that_is_forgotten(self):
         """The server lets its version go at once, whether it was kept or not."""

@@ -2,18 +2,25 @@
 from __future__ import annotations
 
 import _thread
+import atexit
 import os
 import queue
 import sys
 import threading
+import time
 import weakref
-from typing import Any, Callable
+from typing import Any, Callable, List
 
 from .talk import Talk
 from ..errors import NotAllowed, SessionClosed, StoreError
 
 # At most every how many seconds a server is told that a version is needed still, and how often within the time that it gives.
 EVERY, TIMES = 20.0, 3
+# What stands for each thread that was begun to give a version back and doesn't run yet, and for how many seconds an exit waits
+# for these: a Python that ends while one begins may end by a fault of its memory.
+_begun: List[object] = []
+LONGEST = 5.0
+os.register_at_fork(after_in_child=_begun.clear)  # (of a process's threads a fork has none)
 
 
 class Hold:
@@ -63,11 +70,26 @@ def _forgotten(bell: "queue.SimpleQueue[None]", talk: Talk, path: str, process: 
     it begins a thread without `threading`, which has locks."""
     bell.put(None)
     if os.getpid() == process and not sys.is_finalizing():
-        give_back: Callable[..., object] = _give_back
+        run: Callable[..., object] = _run
+        mark = object()
+        _begun.append(mark)
         try:
-            _thread.start_new_thread(give_back, (talk, path))
+            _thread.start_new_thread(run, (mark, talk, path))
         except RuntimeError:  # (there are too many: the server lets it go by itself)
-            pass
+            _begun.remove(mark)
+
+
+def _run(mark: object, talk: Talk, path: str) -> None:
+    _begun.remove(mark)
+    _give_back(talk, path)
+
+
+@atexit.register
+def _wait() -> None:
+    """Waits until each thread that was begun runs."""
+    until = time.monotonic() + LONGEST
+    while _begun and time.monotonic() < until:
+        time.sleep(0.001)
 
 
 def _give_back(talk: Talk, path: str) -> None:
