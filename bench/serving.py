@@ -51,13 +51,13 @@ def feed(pipe: IO[str], rate: int, is_over: threading.Event) -> None:
 class Askers(NamedTuple):
     """So many clients, which pause for so many seconds behind each question; and how many replicas they ask beside the server."""
 
-    count: int
+    number: int
     pause: float
     replicas: int = 0
 
     @property
     def told(self) -> str:
-        return f"{self.count}{'' if self.pause else ', no pause'}{f', {self.replicas} replicas' if self.replicas else ''}"
+        return f"{self.number}{'' if self.pause else ', no pause'}{f', {self.replicas} replicas' if self.replicas else ''}"
 
 
 def ask(url: str, seed: int, pause: float, until: float, times: Times) -> None:
@@ -121,7 +121,7 @@ def asked(store: Any, urls: List[str], askers: Askers, seconds: float) -> Tuple[
     spawn = get_context("spawn")
     found: "queue.Queue[Times]" = spawn.Queue()
     ready, go = spawn.Semaphore(0), spawn.Event()
-    shares = [len(range(it, askers.count, THREADS)) for it in range(min(THREADS, askers.count))]
+    shares = [len(range(it, askers.number, THREADS)) for it in range(min(THREADS, askers.number))]
     running = [spawn.Process(target=clients, args=(urls, it, 100 * at, askers.pause, seconds, ready, go, found))
                for at, it in enumerate(shares)]
     for it in running:

@@ -40,7 +40,7 @@ def rows(words: argparse.Namespace, room: pathlib.Path) -> Iterator[List[str]]:
         alone = 0.0
         for it in asked(words, rate):
             times, taken = measured(room, rate, it, words.seconds)
-            alone = alone if it.count else taken
+            alone = alone if it.number else taken
             yield [*row(rate, it, times), tables.count(taken), f"{taken / alone:.2f}" if alone else tables.ABSENT]
 
 
