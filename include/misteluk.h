@@ -376,9 +376,10 @@ uint32_t misteluk_version_edges(misteluk_version *version, const misteluk_view *
 /* What became of edges */
 
 /* Makes in `diff` the two versions of these holds, to ask what became of edges from the earlier one to the later one. It looks once
- * at each vertex; misteluk_diff_edges then takes time by the rows that batches have touched since the earlier one. It holds both
- * versions on its own: a release, or a free of their handles, takes nothing from it. NO_HANDLE, HELD_ALREADY, NO_SEAT where this
- * desk holds either no more, or since before it opened anew, BAD_NUMBER where the earlier one has the greater number, MEMORY. */
+ * at each 64 vertices, and at each one among 64 of which batches have touched some since the earlier one; misteluk_diff_edges then
+ * takes time by the rows that batches have touched, and mostly by their blocks that aren't in both. It holds both versions on its
+ * own: a release, or a free of their handles, takes nothing from it. NO_HANDLE, HELD_ALREADY, NO_SEAT where this desk holds either
+ * no more, or since before it opened anew, BAD_NUMBER where the earlier one has the greater number, MEMORY. */
 uint32_t misteluk_desk_diff(misteluk_desk *desk, const misteluk_hold *earlier, const misteluk_hold *later, misteluk_diff *diff);
 /* Lets both versions go, as a batch. */
 void misteluk_diff_free(misteluk_diff *diff);
