@@ -85,6 +85,13 @@ class Records(Case):
         self.assertEqual(records.whole_numbers(["5", "-7"], "q", 12), array("q", [5, -7]))
         self.assertIsNone(records.whole_numbers(["5", "-7"], "Q", 12))
 
+    def test_what_is_told_of_a_name(self):
+        outside = "a name has printable ASCII signs alone, from ! to ~, and this has "
+        for name, told in (("a", None), ("", "a name has at least one byte"), ("x" * 64, None), ("a b", f"{outside}a space"),
+                           ("x" * 65, "a name has at most 64 bytes, and this has 65"), ("a\u00e9 ", f"{outside}'\u00e9'")):
+            self.assertEqual(records.name_reason(name), told)
+        self.assertEqual([records.shown("x" * it) for it in (80, 81)], [repr("x" * 80), f"'{'x' * 70}'.. (81 characters)"])
+
 
 if __name__ == "__main__":
     unittest.main()
